@@ -1,0 +1,5 @@
+pub mod RealTimes
+pub mod Kinds
+pub mod Datagrams
+pub mod Sections
+pub mod Rules
