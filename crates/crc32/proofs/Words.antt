@@ -1,4 +1,4 @@
--- Four bytes and the big_endian number that they are.
+-- Four bytes and the big-endian number that they are.
 use Rattle.std.proofs.Common.{◌≡◌, ℕ, ◌/◌, ◌%◌, ◌^◌, ◌<◌, List, [], ◌∷◌, length, arith, lit<}
 use Rattle.octets.specs.Octets.{Bytes, word32}
 use Rattle.crc32.specs.Crc.{big_endian}

@@ -1,5 +1,6 @@
 //! CRC_32: a check sum of 32 bits by the polynomial 0x04C1_1DB7, from a register of ones, the highest bit of each byte
 //! first, with no inversion at the end.
+#![tactic(auto)]
 
 ghost use Rattle.std.specs.Prelude.{◌≡◌};
 ghost use Rattle.crc32.specs.Crc.{ClosedBy, crc, crc_byte};

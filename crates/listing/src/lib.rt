@@ -1,4 +1,5 @@
 //! The lines of a listing of sections, and their tally.
+#![tactic(auto)]
 
 mod lines;
 mod parts;

@@ -1,4 +1,6 @@
 //! What the programs share: how they take their arguments, and bytes in hex.
+#![tactic(auto)]
+
 mod arguments;
 mod hex;
 

@@ -41,7 +41,7 @@ or_else_none None later none = (refl, none)
 -- an answer to a list of rules, once those in front of it have passed
 answers_later : {T : Type 0} {rule : Verdict} (rules : List Verdict) (Done : T → Type 0) (r : Result T Refusal) → rule ≡ None → Answers rules Done r → Answers (rule ∷ rules) Done r
 answers_later rules Done (Ok x) none (passes, done) = (passes_more none passes, done)
-answers_later rules Done (Err e) none IfErr = refused_later none refused
+answers_later rules Done (Err e) none refused = refused_later none refused
 
 pub answers_after : {T : Type 0} (front back : List Verdict) (Done : T → Type 0) (r : Result T Refusal) → Passes front → Answers back Done r → Answers (front ++ back) Done r
 answers_after [] back Done r passes later = later
@@ -57,12 +57,12 @@ within (rule ∷ front) back e (suc at) gives before =
     refused_later (before 0 (suc-le-suc zero-le)) (within front back e at gives (λ k h. before (suc k) (suc-le-suc h)))
 
 pub refused_within : (front back : List Verdict) {e : Refusal} → Refused front e → Refused (front ++ back) e
-refused_within front back {e} IfErr = within front back e IfErr.at IfErr.gives IfErr.before
+refused_within front back {e} refused = within front back e refused.at refused.gives refused.before
 
 -- a refusal that a `?` hands on
 pub exits : {T : Type 0} (rules : List Verdict) (Done : T → Type 0) (r : Result T Refusal) (e : Refusal) → IsErrAnd r (λ y. y ≡ e) → Refused rules e → Answers rules Done r
-exits rules Done (Ok x) e handed IfErr = absurd handed
-exits rules Done (Err y) e handed IfErr = rw handed refused
+exits rules Done (Ok x) e handed refused = absurd handed
+exits rules Done (Err y) e handed refused = rw handed refused
 
 -- the same for a single rule
 pub exits_rule : {T : Type 0} (rule : Verdict) (Done : T → Type 0) (r : Result T Refusal) (e : Refusal) → IsErrAnd r (λ y. y ≡ e) → rule ≡ Some e → Obeys rule Done r

@@ -1,5 +1,5 @@
 -- How refusals are stated: a rule for each number, an ordered list of rules for each call, and the first that fits counts.
-use Rattle.std.specs.Prelude.{◌≡◌, ℕ, ◌<◌, Bool, true, false, ◌⊎◌, List, [], ◌∷◌, get_or, Some, None, Ok, Err, Option, Result, slice_index_or}
+use Rattle.std.specs.Prelude.{◌≡◌, ℕ, ◌<◌, Bool, true, false, ◌⊎◌, List, [], ◌∷◌, Some, None, Ok, Err, Option, Result, slice_index_or}
 use Rattle.refusal.specs.declared.Refusal.{Refusal}
 
 -- what a rule says of a call: the refusal that it gives, with its place, or nothing where it does not fit
@@ -24,7 +24,7 @@ first (rule ∷ rules) = or_else rule (first rules)
 -- the call is refused with e: a rule of the list gives e, and none before it fits
 pub record Refused (rules : List Verdict) (e : Refusal) : Type 0 where
   pub at : ℕ
-  pub gives : get_or rules at None ≡ Some e
+  pub gives : slice_index_or rules at None ≡ Some e
   pub before : (k : ℕ) → k < at → slice_index_or rules k None ≡ None
 
 -- no rule of the list fits

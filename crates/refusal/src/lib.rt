@@ -1,4 +1,6 @@
 //! Why a call says no: the one answer type of all layers, with its numbers, layers, places and texts.
+#![tactic(auto)]
+
 ghost use Rattle.std.specs.Prelude.{◌≡◌, List};
 ghost use Rattle.refusal.specs.Refusals.{number_of, layer_of, place_of, text_of, layer_word};
 ghost use Rattle.refusal.specs.Rules.{Verdict, Settles, Obeys, when};

@@ -1,4 +1,6 @@
 //! Sections on the air: headers, real-time parameters, what one whole datagram is, and reading all that.
+#![tactic(auto)]
+
 mod datagrams;
 mod kinds;
 mod reading;

@@ -52,7 +52,7 @@ impl RealTime {
         ((self.delta_t as u32) << 20) + table + frame + self.address
     }
 
-    /// The four bytes that hold the fields, as one big_endian number. Read back, they give these fields. An address of more than 18 bits
+    /// The four bytes that hold the fields, as one big-endian number. Read back, they give these fields. An address of more than 18 bits
     /// is refused under 10 at byte 8, a delta_t of more than 12 bits under 15.
     pub fn to_be_bytes(self) -> Result<[u8; 4], Refusal>
         ensures answer { Answers (timing_rules self) (λ bytes. bytes ≡ big_endian (real_time_word self)) result }
@@ -63,7 +63,7 @@ impl RealTime {
         Ok(self.word().to_be_bytes())
     }
 
-    /// The fields that four bytes hold, as one big_endian number. Side by side they are that number again, and written
+    /// The fields that four bytes hold, as one big-endian number. Side by side they are that number again, and written
     /// they are the four bytes again.
     pub fn from_be_bytes(bytes: [u8; 4]) -> RealTime
         ensures value { result ≡ real_time_of (word32 bytes 0) }

@@ -1,5 +1,6 @@
 //! Tests of the section layer: every refusal of 4 to 11 alone and in competition with the others, and sections written
 //! again. No code.
+#![tactic(auto)]
 
 #[cfg(test)]
 mod tests {

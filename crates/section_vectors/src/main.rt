@@ -1,5 +1,7 @@
 //! Prints, for the bytes in hex on each line of standard input, their CRC_32 and how they are read as a section:
 //! the number and the place of the refusal, or 0 0. The stored lines come from other programs.
+#![tactic(auto)]
+
 ghost use Rattle.std.specs.Prelude.{◌<◌, IfOk};
 
 use anyhow::anyhow;

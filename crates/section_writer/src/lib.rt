@@ -1,4 +1,6 @@
 //! Sections on the air, written: every byte from the fields, into a lent buffer.
+#![tactic(auto)]
+
 ghost use Rattle.std.specs.Prelude.{◌≡◌, ◌+◌, ◌*◌, ◌^◌, ◌≤◌, not, ◌&&◌, [], ◌∷◌, ◌++◌, length, take, drop, IfOk, OnErr, ◌==◌, nat_le, nat_lt};
 ghost use Rattle.crc32.specs.Crc.{crc, big_endian};
 ghost use Rattle.refusal.specs.declared.Refusal.TheVariants.{NotOneDatagram, Unwritable};

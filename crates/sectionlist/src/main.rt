@@ -1,4 +1,6 @@
 //! Lists the sections that lie back to back on standard input: what each says, or why it is turned away.
+#![tactic(auto)]
+
 use listing::{Tally, section_line};
 use program::asked_to_run;
 use std::io;

@@ -1,4 +1,6 @@
 //! Writes the section that each line of standard input describes, in hex, or says why it is refused.
+#![tactic(auto)]
+
 use anyhow::anyhow;
 use program::{asked_to_run, bytes_of};
 use refusal::Refusal;

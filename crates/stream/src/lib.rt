@@ -1,4 +1,5 @@
 //! A stream of bytes is held in a window and cut into sections, and a line of text is set in columns.
+#![tactic(auto)]
 
 pub mod columns;
 pub mod cutting;

@@ -1,4 +1,6 @@
 //! Worked cases of the formats, in two tables that the checker computes from the definitions.
+#![tactic(auto)]
+
 ghost use Rattle.std.specs.Prelude.{◌≡◌, T, length};
 ghost use Rattle.worked_cases.specs.Cases.{cases, all_hold};
 ghost use Rattle.worked_cases.specs.WritingCases.{cases_written};

@@ -15,7 +15,7 @@ returns-then-not-has-room c =
 
 pub returns : goal.returns
 returns c =
-    let told = c.right-justified.ensures in
+    let told = c.right_justified.ensures in
     let bytes = c.args.self.now.bytes in
     let len = c.args.self.now.len in
     let ds = decimal c.args.number in
@@ -24,13 +24,13 @@ returns c =
     let before = length-take-le len bytes room in
     let wide = number_width c.args.columns c.args.number in
     let field : _ ≡ width = length-between bytes len (len + width) (omega arith) ∙ omega arith in
-    let long = c.right-justified.auto.field in
-    let fit : c.right-justified.result ≡ true = told.fits ∙ le-leb (length ds) _ (omega arith) in
+    let long = c.right_justified.auto.field in
+    let fit : c.right_justified.result ≡ true = told.fits ∙ le-leb (length ds) _ (omega arith) in
     let blanks : length (take (len + width - len) (drop len bytes)) - length ds ≡ c.args.columns - length ds = omega arith in
     record {
       fits = sym (le-leb _ 256 (omega arith));
       written = λ e.
-          take-put_mid len (len + width - len) bytes c.right-justified.new.field (len + width) (omega arith) room
+          take-put_mid len (len + width - len) bytes c.right_justified.new.field (len + width) (omega arith) room
           ∙ ap (λ (u : List ℕ). take len bytes ++ u) (told.written fit ∙ ap (λ (k : ℕ). replicate k 32 ++ ds) blanks);
       kept = search rules;
     }

@@ -19,6 +19,6 @@ returns c =
     let wide = word_width c.args.columns word in
     record {
       fits = sym (le-leb _ 256 (omega arith));
-      written = λ e. word_put len (len + length word) (len + c.max-width.result) c.args.columns c.args.self.now.bytes word c.copy-from-slice.new.self c.fill.new.self (omega arith) (omega arith) (omega arith) (omega arith) (c.copy-from-slice.ensures.after ∙ c.as-bytes.ensures.value) (c.fill.ensures.after (λ y same. same));
+      written = λ e. word_put len (len + length word) (len + c.max-width.result) c.args.columns c.args.self.now.bytes word c.copy_from_slice.new.self c.fill.new.self (omega arith) (omega arith) (omega arith) (omega arith) (c.copy_from_slice.ensures.after ∙ c.as_bytes.ensures.value) (c.fill.ensures.after (λ y same. same));
       kept = search rules;
     }

@@ -11,5 +11,5 @@ returns c =
     let long = length-take-le len bytes (omega arith) in
     record {
       count = c.min-count.ensures ∙ ap (λ (n : ℕ). min (length more) (4098 - n)) (sym long);
-      after = appended len _ c.min-count.result bytes more c.copy-from-slice.new.self (omega arith) (omega arith) (search rules);
+      after = appended len _ c.min-count.result bytes more c.copy_from_slice.new.self (omega arith) (omega arith) (search rules);
     }
