@@ -5,8 +5,8 @@ use Rattle.crc32.specs.Crc.{crc_bit, crc_bits, crc_byte}
 use Rattle.crc32.proofs.Linear.{place_lt, by_table}
 use Rattle.crc32.proofs.step.Goals as goal
 
-pub offset-bounds-place : goal.offset-bounds-place
-offset-bounds-place c = search (rules, place_lt)
+pub offset_bounds-place : goal.offset_bounds-place
+offset_bounds-place c = search (rules, place_lt)
 
 pub bounds-place : goal.bounds-place
 bounds-place c = search (rules, place_lt)

@@ -18,7 +18,7 @@ of_none : (version : IpVersion) (d : List ℕ) (e : Refusal) → whole_rule d 12
 of_none V4 d e given = (neither (whole_as V4 d) (whole_as V6 d) e (NotOneDatagram 12) given).0
 of_none V6 d e given = (neither (whole_as V4 d) (whole_as V6 d) e (NotOneDatagram 12) given).1
 
-pub returns-in-err-told : goal.returns-in-err-told
-returns-in-err-told c =
-    exits_rule (when (not (whole_as c.args.version c.args.payload.now)) (NotOneDatagram 12)) _ c.from-residual.result _ c.from-residual.ensures.1
-    (of_none c.args.version c.args.payload.now _ c.in-err-told.ensures)
+pub returns-in_err-told : goal.returns-in_err-told
+returns-in_err-told c =
+    exits_rule (when (not (whole_as c.args.version c.args.payload.now)) (NotOneDatagram 12)) _ c.from_residual.result _ c.from_residual.ensures.1
+    (of_none c.args.version c.args.payload.now _ c.in_err-told.ensures)

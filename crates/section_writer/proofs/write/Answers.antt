@@ -10,36 +10,36 @@ use Rattle.section_writer.proofs.Fronts.{wrote_first}
 use Rattle.section_writer.proofs.Order.{content_refused, buffer_refused, timing_refused, all_pass}
 use Rattle.section_writer.proofs.write.Goals as goal
 
-pub returns-in-err-check-fields : goal.returns-in-err-check-fields
-returns-in-err-check-fields c =
+pub returns-in_err-check_fields : goal.returns-in_err-check_fields
+returns-in_err-check_fields c =
     let x = c.args.section in
-    let r = c.from-residual in
+    let r = c.from_residual in
     record {
       answer = exits _ _ r.result _ r.ensures.1
-          (content_refused c.args.rows c.args.columns x.header x.timing x.payload.now (length c.args.buffer.now) _ c.in-err-check-fields.ensures);
+          (content_refused c.args.rows c.args.columns x.header x.timing x.payload.now (length c.args.buffer.now) _ c.in_err-check_fields.ensures);
       stays = exits_unchanged _ _ r.result r.ensures.1 refl;
       back = exits_unmade _ _ r.result r.ensures.1;
     }
 
-pub returns-in-err-check-room : goal.returns-in-err-check-room
-returns-in-err-check-room c =
+pub returns-in_err-check_room : goal.returns-in_err-check_room
+returns-in_err-check_room c =
     let x = c.args.section in
-    let r = c.from-residual-in-err-check-room in
+    let r = c.from_residual-in_err-check_room in
     record {
       answer = exits _ _ r.result _ r.ensures.1
-          (buffer_refused c.args.rows c.args.columns x.header x.timing x.payload.now (length c.args.buffer.now) _ c.in-ok-check-fields.ensures.0 c.in-err-check-room.ensures);
+          (buffer_refused c.args.rows c.args.columns x.header x.timing x.payload.now (length c.args.buffer.now) _ c.in_ok-check_fields.ensures.0 c.in_err-check_room.ensures);
       stays = exits_unchanged _ _ r.result r.ensures.1 refl;
       back = exits_unmade _ _ r.result r.ensures.1;
     }
 
-pub returns-in-err-timing : goal.returns-in-err-timing
-returns-in-err-timing c =
+pub returns-in_err-timing : goal.returns-in_err-timing
+returns-in_err-timing c =
     let x = c.args.section in
-    let r = c.from-residual-in-err-timing in
+    let r = c.from_residual-in_err-timing in
     record {
       answer = exits _ _ r.result _ r.ensures.1
-          (timing_refused c.args.rows c.args.columns x.header x.timing x.payload.now (length c.args.buffer.now) _ c.in-ok-check-fields.ensures.0
-          c.in-ok-check-room.ensures.0 c.in-err-timing.ensures.answer);
+          (timing_refused c.args.rows c.args.columns x.header x.timing x.payload.now (length c.args.buffer.now) _ c.in_ok-check_fields.ensures.0
+          c.in_ok-check_room.ensures.0 c.in_err-timing.ensures.answer);
       stays = exits_unchanged _ _ r.result r.ensures.1 refl;
       back = exits_unmade _ _ r.result r.ensures.1;
     }
@@ -48,9 +48,9 @@ pub returns : goal.returns
 unfolding written
 returns c =
     let x = c.args.section in
-    let timing = c.in-ok-timing.ensures.answer in
-    let passes = all_pass c.args.rows c.args.columns x.header x.timing x.payload.now (length c.args.buffer.now) c.in-ok-check-fields.ensures.0
-    c.in-ok-check-room.ensures.0 timing.0 in
+    let timing = c.in_ok-timing.ensures.answer in
+    let passes = all_pass c.args.rows c.args.columns x.header x.timing x.payload.now (length c.args.buffer.now) c.in_ok-check_fields.ensures.0
+    c.in_ok-check_room.ensures.0 timing.0 in
     let after : c.lay.new.buffer ≡ written_of x ++ drop c.lay.result c.args.buffer.now = rw timing.1 at c.lay.ensures.after in
     let size = c.lay.ensures.len ∙ sym (written_length x.header x.timing x.payload.now) in
     let wrote : Wrote (written_of x) c.args.buffer.now c.lay.new.buffer c.lay.result = record { len = size; buffer = rw size at after } in

@@ -53,20 +53,20 @@ pub loop-left-preserved : goal.loop-left-preserved
 loop-left-preserved c =
     let h : 2 ≤ length c.loop-left.left.now = search rules in
     step (vec_items c.loop-left.bytes) c.loop-left.left.now c.args.text.now (vec_items c.push.new.self)
-    c.in-Some.byte h c.loop-left.invariant c.in-Some.ensures c.in-ok-push.ensures.items
+    c.in-Some.byte h c.loop-left.invariant c.in-Some.ensures c.in_ok-push.ensures.items
 
-pub returns-in-default-byte : goal.returns-in-default-byte
-returns-in-default-byte c =
+pub returns-in_default-byte : goal.returns-in_default-byte
+returns-in_default-byte c =
     let h : 2 ≤ length c.loop-left.left.now = search rules in
-    let none = no_byte c.loop-left.left.now h c.in-default-byte.ensures in
+    let none = no_byte c.loop-left.left.now h c.in_default-byte.ensures in
     record { read = tt; refused = λ _. rest_decides (vec_items c.loop-left.bytes) _ _ c.loop-left.invariant none }
 
-pub returns-then-is-empty : goal.returns-then-is-empty
-returns-then-is-empty c =
+pub returns-then-is_empty : goal.returns-then-is_empty
+returns-then-is_empty c =
     record { read = all_read (vec_items c.loop-left.bytes) c.loop-left.left.now _ (cc) c.loop-left.invariant; refused = search rules }
 
-pub returns-else-is-empty : goal.returns-else-is-empty
-returns-else-is-empty c =
+pub returns-else-is_empty : goal.returns-else-is_empty
+returns-else-is_empty c =
     let e : eqb (length c.loop-left.left.now) 0 ≡ false = cc in
     let none = lone c.loop-left.left.now (search rules) e in
     record { read = tt; refused = λ _. rest_decides (vec_items c.loop-left.bytes) _ _ c.loop-left.invariant none }

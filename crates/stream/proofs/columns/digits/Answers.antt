@@ -3,8 +3,8 @@ use Rattle.std.proofs.lemmas.Fmt.{decimal_nonempty, length-decimal-le}
 use Rattle.stream.proofs.Digits.{one_digit, one_digit_more}
 use Rattle.stream.proofs.columns.digits.Goals as goal
 
-pub overflow-add-count : goal.overflow-add-count
-overflow-add-count c =
+pub overflow_add-count : goal.overflow_add-count
+overflow_add-count c =
     let some = decimal_nonempty c.loop-rest.rest (omega arith) in
     let few = length-decimal-le 20 c.args.number (omega arith) (omega arith) (omega arith) in
     omega arith

@@ -4,8 +4,8 @@ use Rattle.std.proofs.lemmas.List.{drop_all}
 use Rattle.stream.proofs.Digits.{one_digit_more, digit_put, blanks_put}
 use Rattle.stream.proofs.columns.right_justified.Goals as goal
 
-pub overflow-sub-at : goal.overflow-sub-at
-overflow-sub-at c = let some = decimal_nonempty c.args.number (omega arith) in omega arith
+pub overflow_sub-at : goal.overflow_sub-at
+overflow_sub-at c = let some = decimal_nonempty c.args.number (omega arith) in omega arith
 
 pub loop-rest-init : goal.loop-rest-init
 loop-rest-init c =
@@ -13,8 +13,8 @@ loop-rest-init c =
     let ds = decimal c.args.number in
     (omega arith, omega arith, omega arith, sym (ap (λ (u : List ℕ). ds ++ u) (drop_all _ c.args.field.now (omega arith)) ∙ append-nil ds))
 
-pub overflow-sub-at-in-loop-rest : goal.overflow-sub-at-in-loop-rest
-overflow-sub-at-in-loop-rest c =
+pub overflow_sub-at-in-loop-rest : goal.overflow_sub-at-in-loop-rest
+overflow_sub-at-in-loop-rest c =
     let more = one_digit_more c.loop-rest.rest c.loop-rest-test.true (omega arith) in
     let some = decimal_nonempty (c.loop-rest.rest / 10) (omega arith) in
     omega arith

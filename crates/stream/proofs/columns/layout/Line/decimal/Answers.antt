@@ -6,9 +6,9 @@ use Rattle.std.proofs.lemmas.Bool.{le-leb, lt-leb, leb-false}
 use Rattle.stream.proofs.Lines.{number_width}
 use Rattle.stream.proofs.columns.layout.Line.decimal.Goals as goal
 
-pub returns-then-not-has-room : goal.returns-then-not-has-room
-returns-then-not-has-room c =
-    let full = leb-false _ 256 (sym c.if-not-has-room.ensures) in
+pub returns-then-not-has_room : goal.returns-then-not-has_room
+returns-then-not-has_room c =
+    let full = leb-false _ 256 (sym c.if-not-has_room.ensures) in
     let before = length-take-le c.args.self.now.len c.args.self.now.bytes (omega arith) in
     let wide = number_width c.args.columns c.args.number in
     record { fits = sym (lt-leb _ 256 (omega arith)); written = search rules; kept = search rules }
