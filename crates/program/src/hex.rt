@@ -3,6 +3,7 @@ ghost use Rattle.std.specs.Prelude.{◌≡◌, ℕ, ◌<◌, IfOk, Some, None, E
 ghost use Rattle.program.specs.Hex.{hex_digit, Digits, in_hex, StandsFor, NoBytes};
 ghost use Rattle.program.specs.declared.hex.HexError.TheVariants.{NotHex, NoMemory};
 
+use anyhow::anyhow;
 use std::alloc::{AllocFailed, Global};
 
 /// Why a text gives no bytes.
@@ -23,8 +24,8 @@ impl<T: Drop> From<AllocFailed<T>> for HexError {
 impl From<HexError> for anyhow::Error {
     fn from(error: HexError) -> anyhow::Error {
         match error {
-            HexError::NotHex => "bytes in hex have two digits each, 0 to 9 and A to F".into(),
-            HexError::NoMemory => "there is no memory for the bytes".into(),
+            HexError::NotHex => anyhow!("bytes in hex have two digits each, 0 to 9 and A to F"),
+            HexError::NoMemory => anyhow!("there is no memory for the bytes"),
         }
     }
 }
