@@ -6,4 +6,4 @@ pub returns-in-Ok : goal.returns-in-Ok
 returns-in-Ok c =
     let fields = c.in-Ok.fields in
     let all = append_assoc (beginning c.args.number c.args.offset (length c.args.section.now) (kind_of_header fields.header)) (timing_columns fields.timing) (header_columns fields.header (length fields.payload.now)) in
-    record { answer = Ok fields; answers = c.in-Ok.ensures.answer; written = cc; kind = c.of-header-listed.ensures }
+    record { answer = Ok fields; answers = c.in-Ok.ensures.answer; written = cc; kind = c.of_header-listed.ensures }
