@@ -21,7 +21,8 @@ mod tests {
         let (line, listed) = section_line(0, 0, &section);
         assert_eq!(rt; listed, Listed::Datagram);
         assert!(rt;
-            line.as_bytes() == b"      0        0    36 datagram    1500     100  1  0  4    20"
+            line.as_bytes()
+                == b"      0        0    36 datagram    1500     100  1  0  4    20".as_slice()
         );
     }
 
@@ -33,7 +34,8 @@ mod tests {
         let (line, listed) = section_line(1, 36, &section);
         assert_eq!(rt; listed, Listed::Check);
         assert!(rt;
-            line.as_bytes() == b"      1       36   272 check        768       9  0  1   3   5   7"
+            line.as_bytes()
+                == b"      1       36   272 check        768       9  0  1   3   5   7".as_slice()
         );
     }
 
@@ -41,7 +43,9 @@ mod tests {
     fn lists_a_refused_section(rt: HostRuntime) {
         let (line, listed) = section_line(12_345_678, 308, &[]);
         assert_eq!(rt; listed, Listed::Refused);
-        assert!(rt; line.as_bytes() == b"12345678      308     0 refused   4 section        0");
+        assert!(rt;
+            line.as_bytes() == b"12345678      308     0 refused   4 section        0".as_slice()
+        );
     }
 
     #[test]
@@ -50,6 +54,8 @@ mod tests {
         tally.count(Listed::Check);
         tally.count(Listed::Refused);
         tally.count(Listed::Check);
-        assert!(rt; tally.summary().as_bytes() == b"sections 3 datagram 0 check 2 refused 1");
+        assert!(rt;
+            tally.summary().as_bytes() == b"sections 3 datagram 0 check 2 refused 1".as_slice()
+        );
     }
 }

@@ -29,7 +29,7 @@ mod tests {
         assert_eq!(rt; window.append(&[7; 5000]), 4094);
         assert_eq!(rt; window.room(), 0);
         window.release(4);
-        assert!(rt; window.held() == &[7; 4094]);
+        assert!(rt; window.held() == [7; 4094].as_slice());
         window.release(5000);
         assert!(rt; window.held().is_empty());
     }
@@ -51,6 +51,6 @@ mod tests {
         assert!(rt; line.decimal(100_000, 5));
         assert!(rt; !line.word("", 238));
         assert!(rt; !line.decimal(0, 238));
-        assert!(rt; line.as_bytes() == b"bursts     17100000");
+        assert!(rt; line.as_bytes() == b"bursts     17100000".as_slice());
     }
 }
