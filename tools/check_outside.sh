@@ -83,8 +83,8 @@ decode_written() {
             missing="$missing rt"
             return
         fi
-        say "build it (rt check sectionwrite)"
-        if ! rt check sectionwrite >"$new/log" 2>&1; then
+        say "build it (tools/build.sh sectionwrite)"
+        if ! tools/build.sh sectionwrite >"$new/log" 2>&1; then
             tail -n 5 "$new/log"
             differs "sectionwrite is not built"
             return

@@ -6,12 +6,11 @@ burst=samples/burst.bin
 log=$(mktemp)
 trap 'rm -f "$log"' EXIT
 
-echo "1. Prove the layers and the programs sectionlist and sectionwrite, and build them (rt check; about five minutes at first)."
-if ! rt check sectionlist sectionwrite >"$log" 2>&1; then
+echo "1. Prove the layers and the programs sectionlist and sectionwrite, and build them (tools/build.sh; some minutes at first)."
+if ! tools/build.sh sectionlist sectionwrite 2>"$log"; then
     cat "$log"
     exit 1
 fi
-grep -E '^rt: ' "$log"
 
 echo
 echo "2. The input: $burst, $(stat -c %s "$burst") bytes of sections laid back to back: twelve datagram sections, four"

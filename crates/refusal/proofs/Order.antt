@@ -38,6 +38,10 @@ pub or_else_none : (v later : Verdict) → or_else v later ≡ None → (v ≡ N
 or_else_none (Some e) later none = (none, cc)
 or_else_none None later none = (refl, none)
 
+pub or_else_assoc : (u v w : Verdict) → or_else (or_else u v) w ≡ or_else u (or_else v w)
+or_else_assoc (Some e) v w = refl
+or_else_assoc None v w = refl
+
 -- an answer to a list of rules, once those in front of it have passed
 answers_later : {T : Type 0} {rule : Verdict} (rules : List Verdict) (Done : T → Type 0) (r : Result T Refusal) → rule ≡ None → Answers rules Done r → Answers (rule ∷ rules) Done r
 answers_later rules Done (Ok x) none (passes, done) = (passes_more none passes, done)

@@ -1,6 +1,7 @@
 pub mod RealTimes
 pub mod Masks
 pub mod Halves
+pub mod Columns
 pub mod LaidOut
 pub mod Alike
 pub mod Passed

@@ -7,13 +7,12 @@ use Rattle.section.specs.declared.reading.Header.TheVariants.{Datagram, Check}
 use Rattle.section.specs.declared.timing.RealTime.{RealTime}
 use Rattle.section.specs.Datagrams.{whole_as}
 
--- in an MPE-FEC section of m check columns: p, s, the last number, the address or the payload's size does not fit
-abbrev pub column_fields : (m : ℕ) (p s last : ℕ) → (address_fits size_fits : Bool) → Verdict
-column_fields m p s last address_fits size_fits =
+-- in the header of an MPE-FEC section for m check columns: p, s, the last number or the address does not fit
+abbrev pub column_fields : (m : ℕ) (p s last : ℕ) → (address_fits : Bool) → Verdict
+column_fields m p s last address_fits =
     or_else (when (nat_lt 190 p) (Field 3))
     (or_else (when (nat_lt last s) (Field 6))
-    (or_else (when (nat_le m last) (Field 7))
-    (or_else (when (not address_fits) (Field 8)) (when (not size_fits) (Field 12)))))
+    (or_else (when (nat_le m last) (Field 7)) (when (not address_fits) (Field 8))))
 
 -- 10: an address of more than 18 bits
 abbrev pub address_rule : (address : ℕ) → Verdict
@@ -32,7 +31,8 @@ timing_rules t = address_rule t.address ∷ delta_rule t.delta_t ∷ []
 abbrev pub write_field_rule : (R m : ℕ) → Header → (address size : ℕ) → Verdict
 write_field_rule R m (Datagram h) address size = address_rule address
 write_field_rule R m (Check h) address size =
-    column_fields m h.padding_columns h.number h.last (address == h.number * R && nat_lt address (2 ^ 18)) (size == R && nat_le size 4080)
+    or_else (column_fields m h.padding_columns h.number h.last (address == h.number * R && nat_lt address (2 ^ 18)))
+    (when (not (size == R && nat_le size 4080)) (Field 12))
 
 -- 11, of a section that is to be written: the payload is not one whole datagram of the version in the header
 abbrev pub write_payload_rule : Header → List ℕ → Verdict

@@ -8,5 +8,5 @@ mod timing;
 
 pub use datagrams::{IpVersion, whole_datagram};
 pub use kinds::Kind;
-pub use reading::{CheckHeader, ColumnFit, DatagramHeader, Header, Section, read};
+pub use reading::{CheckHeader, DatagramHeader, Header, Section, read};
 pub use timing::{MAX_ADDRESS, MAX_DELTA_T, RealTime};

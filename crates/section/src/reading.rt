@@ -133,25 +133,16 @@ fn check_zeros(byte_6: u8, byte_7: u8) -> Result<(), Refusal>
     refuse_when(byte_7 != 0, Refusal::Field { place: 7 })
 }
 
-/// Whether a check column has the address and the size that it should have. A column that is read and one that is to be
-/// written differ in what is asked of these.
-#[derive(Clone, Copy)]
-pub struct ColumnFit {
-    pub address: bool,
-    pub size: bool,
-}
-
 impl CheckHeader {
-    /// Refuses, under 10, the first field of an MPE-FEC section that does not fit a table of so many check columns; whether
-    /// address and payload do is the caller's to say.
-    pub fn check_fields(self, columns: usize, fit: ColumnFit) -> Result<(), Refusal>
-        ensures { Obeys (column_fields columns self.padding_columns self.number self.last fit.address fit.size) (λ _. Unit {0}) result }
+    /// Refuses, under 10, the first field of an MPE-FEC section's header that does not fit a table of so many check columns;
+    /// whether the address does is the caller's to say.
+    pub fn check_fields(self, columns: usize, address_fits: bool) -> Result<(), Refusal>
+        ensures { Obeys (column_fields columns self.padding_columns self.number self.last address_fits) (λ _. Unit {0}) result }
     {
         refuse_when(self.padding_columns > 190, Refusal::Field { place: 3 })?;
         refuse_when(self.number > self.last, Refusal::Field { place: 6 })?;
         refuse_when(columns <= self.last as usize, Refusal::Field { place: 7 })?;
-        refuse_when(!fit.address, Refusal::Field { place: 8 })?;
-        refuse_when(!fit.size, Refusal::Field { place: 12 })
+        refuse_when(!address_fits, Refusal::Field { place: 8 })
     }
 
     // The header fits a burst of so many rows and check columns, its address, and the size of its payload.
@@ -159,11 +150,8 @@ impl CheckHeader {
         ensures { Obeys (column_rule rows columns self.padding_columns self.number self.last address size) (λ _. Unit {0}) result }
     {
         let begin = self.number as u128 * rows as u128;
-        let fit = ColumnFit {
-            address: address as u128 == begin,
-            size: size == rows,
-        };
-        self.check_fields(columns, fit)
+        self.check_fields(columns, address as u128 == begin)?;
+        refuse_when(size != rows, Refusal::Field { place: 12 })
     }
 }
 

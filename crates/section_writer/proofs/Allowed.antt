@@ -3,7 +3,7 @@ use Rattle.std.proofs.Common.{◌≡◌, ℕ, ◌*◌, ◌^◌, ◌<◌, ◌≤�
 use Rattle.std.proofs.lemmas.Bool.{not-false, and_parts, leb-true, ltb-true, leb-false, ltb-false}
 use Rattle.refusal.specs.declared.Refusal.{Refusal}
 use Rattle.refusal.specs.declared.Refusal.TheVariants.{Field, Unwritable}
-use Rattle.refusal.specs.Rules.{when, Passes}
+use Rattle.refusal.specs.Rules.{when, or_else, Passes}
 use Rattle.refusal.proofs.Order.{when_none, or_else_none}
 use Rattle.section.specs.declared.datagrams.IpVersion.{IpVersion}
 use Rattle.section.specs.declared.reading.Header.{Header}
@@ -25,14 +25,15 @@ sized : (v : IpVersion) (d : List ℕ) → whole_as v d ≡ true → length d �
 sized v d is = leb-true _ _ (and_parts _ _ is).1
 
 -- the two tests that writing adds to those of reading, taken off again
-pub column_parts : (m p s last : ℕ) (a b c d : Bool) → column_fields m p s last (a && b) (c && d) ≡ None → (column_fields m p s last a c ≡ None) × (b ≡ true) × (d ≡ true)
+pub column_parts : (m p s last : ℕ) (a b c d : Bool) → or_else (column_fields m p s last (a && b)) (when (not (c && d)) (Field 12)) ≡ None
+    → (or_else (column_fields m p s last a) (when (not c) (Field 12)) ≡ None) × (b ≡ true) × (d ≡ true)
 column_parts m p s last a b c d none =
-    let e₀ = or_else_none (when (ltb 190 p) (Field 3)) _ none in
+    let e = or_else_none (column_fields m p s last (a && b)) (when (not (c && d)) (Field 12)) none in
+    let e₀ = or_else_none (when (ltb 190 p) (Field 3)) _ e.0 in
     let e₁ = or_else_none (when (ltb last s) (Field 6)) _ e₀.1 in
-    let e₂ = or_else_none (when (leb m last) (Field 7)) _ e₁.1 in
-    let e₃ = or_else_none (when (not (a && b)) (Field 8)) (when (not (c && d)) (Field 12)) e₂.1 in
-    let ab = and_parts a b (on (a && b) (Field 8) e₃.0) in
-    let cd = and_parts c d (on (c && d) (Field 12) e₃.1) in
+    let e₂ = or_else_none (when (leb m last) (Field 7)) (when (not (a && b)) (Field 8)) e₁.1 in
+    let ab = and_parts a b (on (a && b) (Field 8) e₂.1) in
+    let cd = and_parts c d (on (c && d) (Field 12) e.1) in
     (rw (e₀.0, e₁.0, e₂.0, ab.0, cd.0), ab.1, cd.1)
 
 twelve_bits : (room delta_t : ℕ) → unwritable_rule room delta_t ≡ None → delta_t < 2 ^ 12

@@ -1,5 +1,5 @@
 -- What is written from fields that can be written is read back to the same fields.
-use Rattle.std.proofs.Common.{◌≡◌, ℕ, ◌+◌, ◌-◌, ◌*◌, ◌/◌, ◌%◌, ◌^◌, ◌<◌, ◌≤◌, Bool, true, false, T, eqb, List, ◌++◌, length, drop, None, Ok, Err, refl, ap, ◌∙◌, arith, lit<, rules}
+use Rattle.std.proofs.Common.{◌≡◌, ℕ, ◌+◌, ◌-◌, ◌*◌, ◌/◌, ◌%◌, ◌^◌, ◌<◌, ◌≤◌, Bool, true, false, T, eqb, List, ◌++◌, length, drop, None, Ok, Err, sym, refl, ap, ◌∙◌, arith, lit<, rules}
 use Rattle.std.proofs.lemmas.List.{take_at}
 use Rattle.std.proofs.lemmas.Bool.{and_parts, eqb-true, le-ltb, eq-eqb, or_right}
 use Rattle.octets.specs.Octets.{byte, section_length}
@@ -24,6 +24,7 @@ use Rattle.section.specs.Writing.{write_rules}
 use Rattle.section.specs.Sections.{payload_of, timing_of, HeaderOf, HeaderIn}
 use Rattle.section.specs.Layout.{bytes_of_kind, kind_of, written, written_of}
 use Rattle.section.specs.Laws.{ReadsAs}
+use Rattle.section.proofs.Columns.{column_split}
 use Rattle.section.proofs.LaidOut.{message, written_length, in_header, in_kind}
 use Rattle.crc32.proofs.Words.{word_again}
 use Rattle.section_writer.proofs.Allowed.{on, column_parts, bounds}
@@ -83,8 +84,14 @@ kind_passes : (R m : ℕ) (h : Header) (t : RealTime) (payload : List ℕ) (room
     × (field_rule R m (table_id_of (kind_of h)) (byte (bytes_of_kind h) 0) (byte (bytes_of_kind h) 3) (byte (bytes_of_kind h) 4) t.address (length payload) ≡ None)
     × (payload_rule (table_id_of (kind_of h)) payload ≡ None)
 kind_passes R m (Datagram h) t payload room passes = (refl, refl, refl, refl, whole_passes h.version payload (on _ _ (passes.none 1)))
-kind_passes R m (Check h) t payload room passes =
-    (refl, refl, refl, (column_parts m h.padding_columns h.number h.last (eqb t.address (h.number * R)) _ (eqb (length payload) R) _ (passes.none 0)).0, refl)
+kind_passes R m (Check h) t payload room passes = (
+  refl,
+  refl,
+  refl,
+  sym (column_split R m h.padding_columns h.number h.last t.address (length payload))
+      ∙ (column_parts m h.padding_columns h.number h.last (eqb t.address (h.number * R)) _ (eqb (length payload) R) _ (passes.none 0)).0,
+  refl,
+)
 
 pub passes_back : (R m : ℕ) (h : Header) (t : RealTime) (payload : List ℕ) (room : ℕ) → Passes (write_rules R m h t payload room) → Passes (read_rules R m (written h t payload))
 passes_back R m h t payload room passes =

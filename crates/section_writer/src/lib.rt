@@ -13,7 +13,7 @@ ghost use Rattle.section_writer.specs.Buffers.{Wrote, before_crc};
 
 use crc32::crc_32;
 use refusal::{Refusal, refuse_when};
-use section::{ColumnFit, Header, IpVersion, MAX_ADDRESS, Section, whole_datagram};
+use section::{Header, IpVersion, MAX_ADDRESS, Section, whole_datagram};
 
 /// The bytes that a buffer for a section has, as many as the longest section.
 pub const BUFFER: usize = 4096;
@@ -57,11 +57,11 @@ fn check_fields(section: Section<'_>, rows: usize, columns: usize) -> Result<(),
             check_datagram(header.version, section.payload)
         }
         Header::Check(header) => {
-            let fit = ColumnFit {
-                address: column_address(address, header.number, rows),
-                size: column_size(section.payload.len(), rows),
-            };
-            header.check_fields(columns, fit)
+            header.check_fields(columns, column_address(address, header.number, rows))?;
+            refuse_when(
+                !column_size(section.payload.len(), rows),
+                Refusal::Field { place: 12 },
+            )
         }
     }
 }

@@ -1,6 +1,7 @@
 -- Each turn reads a byte off the front of what is left; where that fails, and where a digit is left, the text is not the digits of bytes.
 use Rattle.std.proofs.Common.{◌≡◌, ℕ, ◌-◌, ◌/◌, ◌%◌, ◌<◌, ◌≤◌, true, false, eqb, List, [], ◌∷◌, ◌++◌, length, get_or, take, drop, vec_items, sym, refl, ap, append_assoc, append-nil, arith, take_all, rules, eqb-true}
 use borrow.Author.Tests.{eqb-false}
+use Rattle.std.proofs.lemmas.List.Elements.{All-head, All-tail}
 use Rattle.program.specs.Hex.{hex_digit, Digits, in_hex, NoBytes}
 use Rattle.program.proofs.hex.read_digits.Goals as goal
 
@@ -31,13 +32,13 @@ rest_decides : (read left text : List ℕ) → in_hex read ++ left ≡ text → 
 unfolding in_hex
 rest_decides [] left text inv none bytes small e = none bytes small (cc)
 rest_decides (x ∷ read) left text inv none [] small e = let z : ◌≡◌ {A = ℕ} 0 1 = cc in omega arith
-rest_decides (x ∷ read) left text inv none (b ∷ bytes) small e = rest_decides read left (in_hex bytes) (cc) none bytes small.1 refl
+rest_decides (x ∷ read) left text inv none (b ∷ bytes) small e = rest_decides read left (in_hex bytes) (cc) none bytes (All-tail (λ b. b < 256) b bytes small) refl
 
 -- two signs that are not the digits of a byte
 no_byte : (left : List ℕ) → 2 ≤ length left → ((b : ℕ) → b < 256 → Digits b (get_or left 0 0) (get_or left 1 0) → ⊥) → NoBytes (λ bytes. left ≡ in_hex bytes)
 unfolding in_hex
 no_byte left h none [] small e = let z = ap length e in omega arith
-no_byte left h none (b ∷ bytes) small e = none b small.0 (ap (λ (l : List ℕ). get_or l 0 0) (sym e), ap (λ (l : List ℕ). get_or l 1 0) (sym e))
+no_byte left h none (b ∷ bytes) small e = none b (All-head (λ b. b < 256) b bytes small) (ap (λ (l : List ℕ). get_or l 0 0) (sym e), ap (λ (l : List ℕ). get_or l 1 0) (sym e))
 
 -- a lone digit
 lone : (left : List ℕ) → length left < 2 → eqb (length left) 0 ≡ false → NoBytes (λ bytes. left ≡ in_hex bytes)
