@@ -77,7 +77,7 @@ fi
 # 4. What our own program writes, decoded by others.
 decode_written() {
     local program=target/bin/sectionwrite lines=crates/sectionwrite/stdin
-    if [ ! -x $program ] || [ -n "$(find crates -name '*.rt' -newer $program -print -quit)" ]; then
+    if [ ! -x $program ] || [ -n "$(find crates -name out -prune -o -name '*.rt' -newer $program -print -quit)" ]; then
         if ! command -v rt >/dev/null; then
             say "NOT TO BE HAD: rt, to build sectionwrite"
             missing="$missing rt"

@@ -5,8 +5,9 @@ and local names in snake case, types in upper camel case.
 
 respell.py [FOLDER] rewrites the files below FOLDER/crates (without it, below the
 repository's root). Names of the code, and names that the toolchain makes from
-them (fields of an answer's `c`, goals), are left as they are; so are comments
-and strings. It stops where a new name already stands in one of the files.
+them (a field right behind `c.` or `r.`, goals), are in no list or are passed
+over; comments and strings are left as they are. It stops, with nothing written,
+where one .antt file has both a name and its new spelling.
 """
 import glob
 import os

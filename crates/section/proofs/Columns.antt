@@ -1,5 +1,5 @@
 -- The rule for a check column that is read, as one for its header and one for the payload's size.
-use Rattle.std.proofs.Common.{◌≡◌, ℕ, ◌*◌, ◌<◌, not, eqb, ltb, leb, sym, ap, ◌∙◌}
+use Rattle.std.proofs.Common.{◌≡◌, ℕ, ◌*◌, not, eqb, ltb, leb, ap, ◌∙◌}
 use Rattle.refusal.specs.declared.Refusal.TheVariants.{Field}
 use Rattle.refusal.specs.Rules.{Verdict, when, or_else}
 use Rattle.refusal.proofs.Order.{or_else_assoc}

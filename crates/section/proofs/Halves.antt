@@ -32,9 +32,9 @@ envelope_refused R m s e some = refused_within (envelope s) _ (first_refuses (en
 
 -- the content's rules, worked out from what the code has at hand, are those of the section
 pub content_answers : (R m : ℕ) (s : List ℕ) (id address : ℕ) (payload : List ℕ) (r : Result Section Refusal) → first (envelope s) ≡ None → id ≡ byte s 0 → address ≡ (timing_of s).address → payload ≡ payload_of s → Obeys (first (content R m id address s payload)) (SectionOf s) r → Answers (read_rules R m s) (SectionOf s) r
-content_answers R m s id address payload r none is_id is_Address is_payload obeys =
+content_answers R m s id address payload r none is_id is_address is_payload obeys =
     answers_after (envelope s) (content R m (byte s 0) (timing_of s).address s (payload_of s)) (SectionOf s) r (first_passes (envelope s) none)
-    (answers_first _ (SectionOf s) r (rw (is_id, is_Address, is_payload) at obeys))
+    (answers_first _ (SectionOf s) r (rw (is_id, is_address, is_payload) at obeys))
 
 pub header_same : (s : List ℕ) (id : ℕ) (payload : List ℕ) (h : Header) → id ≡ byte s 0 → payload ≡ payload_of s → HeaderOf id (byte s 3) (byte s 4) (byte s 6) (byte s 7) payload h → HeaderOf (byte s 0) (byte s 3) (byte s 4) (byte s 6) (byte s 7) (payload_of s) h
 header_same s id payload h is_id is_payload of = rw (is_id, is_payload) at of

@@ -165,7 +165,11 @@ fn check_envelope(
     byte_5: u8,
 ) -> Result<Kind, Refusal>
     requires { length section.now ≡ 12 + length rest.now }
-    ensures { Obeys (first (size_rule (length section.now) ∷ table_rule table_id ∷ length_rule byte_1 byte_2 (length section.now) ∷ marker_rule byte_1 byte_5 ∷ plain_rule table_id byte_5 ∷ crc_rule section.now ∷ [])) (λ kind. table_id_of kind ≡ table_id) result }
+    ensures { Obeys
+        (first (size_rule (length section.now) ∷ table_rule table_id
+        ∷ length_rule byte_1 byte_2 (length section.now) ∷ marker_rule byte_1 byte_5
+        ∷ plain_rule table_id byte_5 ∷ crc_rule section.now ∷ []))
+        (λ kind. table_id_of kind ≡ table_id) result }
 {
     check_size(rest)?;
     let kind = Kind::from_table_id(table_id)?;
@@ -194,7 +198,10 @@ fn read_header(
     address: u32,
     payload: &[u8],
 ) -> Result<Header, Refusal>
-    ensures { Obeys (first (field_rule rows columns (table_id_of kind) bytes.byte_3 bytes.byte_6 bytes.byte_7 address (length payload.now) ∷ payload_rule (table_id_of kind) payload.now ∷ [])) (HeaderOf (table_id_of kind) bytes.byte_3 bytes.byte_4 bytes.byte_6 bytes.byte_7 payload.now) result }
+    ensures { Obeys
+        (first (field_rule rows columns (table_id_of kind) bytes.byte_3 bytes.byte_6 bytes.byte_7 address (length payload.now)
+        ∷ payload_rule (table_id_of kind) payload.now ∷ []))
+        (HeaderOf (table_id_of kind) bytes.byte_3 bytes.byte_4 bytes.byte_6 bytes.byte_7 payload.now) result }
 {
     match kind {
         Kind::Datagram => {

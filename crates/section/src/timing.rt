@@ -52,8 +52,8 @@ impl RealTime {
         ((self.delta_t as u32) << 20) + table + frame + self.address
     }
 
-    /// The four bytes that hold the fields, as one big-endian number. Read back, they give these fields. An address of more than 18 bits
-    /// is refused under 10 at byte 8, a delta_t of more than 12 bits under 15.
+    /// The four bytes that hold the fields, as one big-endian number. Read back, they give these fields. An address of more
+    /// than 18 bits is refused under 10 at byte 8, a delta_t of more than 12 bits under 15.
     pub fn to_be_bytes(self) -> Result<[u8; 4], Refusal>
         ensures answer { Answers (timing_rules self) (λ bytes. bytes ≡ big_endian (real_time_word self)) result }
         ensures back { IfOk result (λ bytes. real_time_of (word32 bytes 0) ≡ self) }

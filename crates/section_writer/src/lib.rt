@@ -48,7 +48,10 @@ fn column_size(size: usize, rows: usize) -> bool
 
 // The fields of a section that 10 and 11 do not turn away.
 fn check_fields(section: Section<'_>, rows: usize, columns: usize) -> Result<(), Refusal>
-    ensures { Obeys (first (write_field_rule rows columns section.entry.header section.entry.timing.address (length section.entry.payload.now) ∷ write_payload_rule section.entry.header section.entry.payload.now ∷ [])) (λ _. Unit {0}) result }
+    ensures { Obeys
+        (first (write_field_rule rows columns section.entry.header section.entry.timing.address (length section.entry.payload.now)
+        ∷ write_payload_rule section.entry.header section.entry.payload.now ∷ []))
+        (λ _. Unit {0}) result }
 {
     let address = section.timing.address;
     match section.header {
@@ -146,7 +149,9 @@ pub fn write(
     columns: usize,
     buffer: &mut [u8],
 ) -> Result<usize, Refusal>
-    ensures answer { Answers (write_rules rows columns section.entry.header section.entry.timing section.entry.payload.now (length buffer.old)) (Wrote (written_of section.entry) buffer.old buffer.new) result }
+    ensures answer { Answers
+        (write_rules rows columns section.entry.header section.entry.timing section.entry.payload.now (length buffer.old))
+        (Wrote (written_of section.entry) buffer.old buffer.new) result }
     ensures stays { OnErr result (buffer.new ≡ buffer.old) }
     ensures back { IfOk result (λ n. ReadsAs rows columns (take n buffer.new) section.entry) }
 {

@@ -66,7 +66,9 @@ fn first_size(held: &[u8], ended: bool) -> Option<usize>
 
 /// How many bytes the section at the front has, where it is held as a whole.
 fn whole_section(held: &[u8]) -> Option<usize>
-    ensures { MatchOption result (TooShort held.now × (length held.now < 4098)) (λ size. (3 ≤ length held.now) × (size ≤ length held.now) × (size ≡ 3 + length_told held.now)) }
+    ensures { MatchOption result
+        (TooShort held.now × (length held.now < 4098))
+        (λ size. (3 ≤ length held.now) × (size ≤ length held.now) × (size ≡ 3 + length_told held.now)) }
 {
     let [_, high, low, ..] = held else {
         return None;
