@@ -1,9 +1,12 @@
 //! Why a call says no: the one answer type of all layers, with its numbers, layers, places and texts.
 #![tactic(auto)]
 
-ghost use Rattle.std.specs.Prelude.{◌≡◌, List};
+ghost use Rattle.std.specs.Prelude.{◌≡◌, List, Some};
 ghost use Rattle.refusal.specs.Refusals.{number_of, layer_of, place_of, text_of, layer_word};
 ghost use Rattle.refusal.specs.Rules.{Verdict, Settles, Obeys, when};
+
+use std::error::Error;
+use std::fmt;
 
 /// What a refusal is about: the call itself, the section that was handed in, or the table that it would enter.
 #[derive(Clone, Copy, PartialEq, Eq, Debug)]
@@ -23,6 +26,14 @@ impl Layer {
             Layer::Section => "section",
             Layer::Table => "table",
         }
+    }
+}
+
+impl fmt::Display for Layer {
+    ghost output = { λ layer. Some (layer_word layer) };
+
+    fn fmt<W: fmt::Write>(&self, f: &mut fmt::Formatter<W>) -> fmt::Result {
+        f.pad(self.word())
     }
 }
 
@@ -153,6 +164,16 @@ impl Refusal {
         }
     }
 }
+
+impl fmt::Display for Refusal {
+    ghost output = { λ refusal. Some (text_of refusal) };
+
+    fn fmt<W: fmt::Write>(&self, f: &mut fmt::Formatter<W>) -> fmt::Result {
+        f.pad(self.text())
+    }
+}
+
+impl Error for Refusal {}
 
 /// Refuses a call where a rule fits, and lets it pass otherwise.
 pub fn refuse_when(fits: bool, refusal: Refusal) -> Result<(), Refusal>
