@@ -34,8 +34,8 @@ pub fn whole_datagram(bytes: &[u8], place: u64) -> Result<IpVersion, Refusal>
         return Err(Refusal::NotOneDatagram { place });
     };
     let sized = 20 <= n && n <= 4080;
-    let length_4 = u16::from_be_bytes([*byte_2, *byte_3]) as usize;
-    let length_6 = u16::from_be_bytes([*byte_4, *byte_5]) as usize + 40;
+    let length_4 = usize::from(u16::from_be_bytes([*byte_2, *byte_3]));
+    let length_6 = usize::from(u16::from_be_bytes([*byte_4, *byte_5])) + 40;
     match first >> 4 {
         4 if sized && length_4 == n => Ok(IpVersion::V4),
         6 if sized && length_6 == n => Ok(IpVersion::V6),

@@ -24,11 +24,15 @@ impl Kind {
             Kind::Check => 0x78,
         }
     }
+}
 
-    /// The kind that a table_id stands for; any other number is refused.
-    pub fn from_table_id(table_id: u8) -> Result<Kind, Refusal>
-        ensures { Obeys (table_rule table_id) (λ kind. table_id_of kind ≡ table_id) result }
-    {
+/// The kind that a table_id stands for; any other number is refused.
+impl TryFrom<u8> for Kind {
+    type Error = Refusal;
+
+    ghost try_from_gives = { λ table_id. Obeys (table_rule table_id) (λ kind. table_id_of kind ≡ table_id) };
+
+    fn try_from(table_id: u8) -> Result<Kind, Refusal> {
         match table_id {
             0x3e => Ok(Kind::Datagram),
             0x78 => Ok(Kind::Check),

@@ -1,17 +1,19 @@
 //! Reading a section: its fields, or the first reason to turn it away.
-ghost use Rattle.std.specs.Prelude.{◌≡◌, ◌+◌, not, [], ◌∷◌, length, IfOk};
+ghost use Rattle.std.specs.Prelude.{◌≡◌, ◌+◌, [], ◌∷◌, length, IfOk};
 ghost use Rattle.refusal.specs.Rules.{Obeys, Answers, first};
 ghost use Rattle.section.specs.Kinds.{table_id_of, table_rule};
 ghost use Rattle.section.specs.Layout.{kind_of};
-ghost use Rattle.section.specs.Rules.{size_rule, length_rule, markers_1, markers_5, scrambled_or_wrapped, marker_rule, plain_rule, crc_rule, zeros_rule, column_rule, field_rule, payload_rule, read_rules};
+ghost use Rattle.section.specs.Rules.{size_rule, length_rule, marker_rule, plain_rule, crc_rule, zeros_rule, column_rule, field_rule, payload_rule, read_rules};
 ghost use Rattle.section.specs.Writing.{column_fields};
 ghost use Rattle.section.specs.Laws.{WrittenAgain};
 ghost use Rattle.section.specs.Sections.{HeaderOf, SectionOf};
 
 use crate::datagrams::{IpVersion, whole_datagram};
+use crate::frame_size::FrameSize;
 use crate::kinds::Kind;
 use crate::timing::RealTime;
 use crc32::crc_32;
+use octets::section_length;
 use refusal::{Refusal, refuse_when};
 
 /// What the header of a datagram section says, with the version of its datagram.
@@ -70,67 +72,11 @@ fn check_size(rest: &[u8]) -> Result<(), Refusal>
     refuse_when(n < 4 || 4084 < n, Refusal::SectionSize)
 }
 
-fn check_length(byte_1: u8, byte_2: u8, n: usize) -> Result<(), Refusal>
-    ensures { Obeys (length_rule byte_1 byte_2 n) (λ _. Unit {0}) result }
-{
-    let section_length = u16::from_be_bytes([byte_1 % 16, byte_2]) as usize;
-    refuse_when(
-        section_length != n.saturating_sub(3),
-        Refusal::SectionLength,
-    )
-}
-
-// Bits 7, 5 and 4 of byte 1 are 1.
-fn marked_1(byte_1: u8) -> bool
-    ensures { result ≡ markers_1 byte_1 }
-{
-    byte_1 & 0b1011_0000 == 0b1011_0000
-}
-
-// Bits 7, 6 and 0 of byte 5 are 1.
-fn marked_5(byte_5: u8) -> bool
-    ensures { result ≡ markers_5 byte_5 }
-{
-    byte_5 & 0b1100_0001 == 0b1100_0001
-}
-
-// Bits 5 to 1 of byte 5 are 0.
-fn plain(byte_5: u8) -> bool
-    ensures { result ≡ not (scrambled_or_wrapped byte_5) }
-{
-    byte_5 & 0b0011_1110 == 0
-}
-
-fn check_marker_bits(byte_1: u8, byte_5: u8) -> Result<(), Refusal>
-    ensures { Obeys (marker_rule byte_1 byte_5) (λ _. Unit {0}) result }
-{
-    if !marked_1(byte_1) {
-        return Err(Refusal::MarkerBit { place: 1 });
-    }
-    refuse_when(!marked_5(byte_5), Refusal::MarkerBit { place: 5 })
-}
-
-fn check_plain(kind: Kind, byte_5: u8) -> Result<(), Refusal>
-    ensures { Obeys (plain_rule (table_id_of kind) byte_5) (λ _. Unit {0}) result }
-{
-    match kind {
-        Kind::Datagram => refuse_when(!plain(byte_5), Refusal::NotPlain),
-        Kind::Check => Ok(()),
-    }
-}
-
 fn check_crc(section: &[u8]) -> Result<(), Refusal>
     ensures { Obeys (crc_rule section.now) (λ _. Unit {0}) result }
 {
     let place = section.len().saturating_sub(4) as u64;
     refuse_when(crc_32(section) != 0, Refusal::Checksum { place })
-}
-
-fn check_zeros(byte_6: u8, byte_7: u8) -> Result<(), Refusal>
-    ensures { Obeys (zeros_rule byte_6 byte_7) (λ _. Unit {0}) result }
-{
-    refuse_when(byte_6 != 0, Refusal::Field { place: 6 })?;
-    refuse_when(byte_7 != 0, Refusal::Field { place: 7 })
 }
 
 impl CheckHeader {
@@ -141,97 +87,148 @@ impl CheckHeader {
     {
         refuse_when(self.padding_columns > 190, Refusal::Field { place: 3 })?;
         refuse_when(self.number > self.last, Refusal::Field { place: 6 })?;
-        refuse_when(columns <= self.last as usize, Refusal::Field { place: 7 })?;
+        refuse_when(
+            columns <= usize::from(self.last),
+            Refusal::Field { place: 7 },
+        )?;
         refuse_when(!address_fits, Refusal::Field { place: 8 })
     }
 
-    // The header fits a burst of so many rows and check columns, its address, and the size of its payload.
-    fn check(self, rows: usize, columns: usize, address: u32, size: usize) -> Result<(), Refusal>
-        ensures { Obeys (column_rule rows columns self.padding_columns self.number self.last address size) (λ _. Unit {0}) result }
+    // The header fits a frame of this size, its address, and the size of its payload.
+    fn check(self, frame: FrameSize, address: u32, size: usize) -> Result<(), Refusal>
+        ensures { Obeys
+            (column_rule frame.rows frame.check_columns self.padding_columns self.number self.last address size)
+            (λ _. Unit {0}) result }
     {
-        let begin = self.number as u128 * rows as u128;
-        self.check_fields(columns, address as u128 == begin)?;
-        refuse_when(size != rows, Refusal::Field { place: 12 })
+        let address_fits = u128::from(address) == frame.column_address(self.number);
+        self.check_fields(frame.check_columns, address_fits)?;
+        refuse_when(size != frame.rows, Refusal::Field { place: 12 })
     }
 }
 
-// The kind of a section that 4 to 9 do not turn away. It is given taken apart: bytes 0, 1, 2 and 5, and the rest.
-fn check_envelope(
-    section: &[u8],
-    rest: &[u8],
+// Bits 7, 5 and 4 of byte 1, and bits 7, 6 and 0 of byte 5: they are 1.
+const MARKERS_1: u8 = 0b1011_0000;
+
+const MARKERS_5: u8 = 0b1100_0001;
+
+// Bits 5 to 1 of byte 5, which tell that a section is scrambled, or wrapped by LLC/SNAP.
+const SCRAMBLED_OR_WRAPPED: u8 = 0b0011_1110;
+
+// The bytes of a section in front of its real-time parameters, as they stand there.
+#[derive(Clone, Copy)]
+struct Front {
     table_id: u8,
     byte_1: u8,
     byte_2: u8,
-    byte_5: u8,
-) -> Result<Kind, Refusal>
-    requires { length section.now ≡ 12 + length rest.now }
-    ensures { Obeys
-        (first (size_rule (length section.now) ∷ table_rule table_id
-        ∷ length_rule byte_1 byte_2 (length section.now) ∷ marker_rule byte_1 byte_5
-        ∷ plain_rule table_id byte_5 ∷ crc_rule section.now ∷ []))
-        (λ kind. table_id_of kind ≡ table_id) result }
-{
-    check_size(rest)?;
-    let kind = Kind::from_table_id(table_id)?;
-    check_length(byte_1, byte_2, section.len())?;
-    check_marker_bits(byte_1, byte_5)?;
-    check_plain(kind, byte_5)?;
-    check_crc(section)?;
-    Ok(kind)
-}
-
-// The bytes of a header that mean something else in each kind of section.
-#[derive(Clone, Copy)]
-struct KindBytes {
     byte_3: u8,
     byte_4: u8,
+    byte_5: u8,
     byte_6: u8,
     byte_7: u8,
 }
 
-// The header of a section of a kind, if 10 and 11 do not turn it away.
-fn read_header(
-    kind: Kind,
-    bytes: KindBytes,
-    rows: usize,
-    columns: usize,
-    address: u32,
-    payload: &[u8],
-) -> Result<Header, Refusal>
-    ensures { Obeys
-        (first (field_rule rows columns (table_id_of kind) bytes.byte_3 bytes.byte_6 bytes.byte_7 address (length payload.now)
-        ∷ payload_rule (table_id_of kind) payload.now ∷ []))
-        (HeaderOf (table_id_of kind) bytes.byte_3 bytes.byte_4 bytes.byte_6 bytes.byte_7 payload.now) result }
-{
-    match kind {
-        Kind::Datagram => {
-            check_zeros(bytes.byte_6, bytes.byte_7)?;
-            let version = whole_datagram(payload, 12)?;
-            let (mac_address_6, mac_address_5) = (bytes.byte_3, bytes.byte_4);
-            Ok(Header::Datagram(DatagramHeader {
-                mac_address_6,
-                mac_address_5,
-                version,
-            }))
+impl Front {
+    fn check_length(self, n: usize) -> Result<(), Refusal>
+        ensures { Obeys (length_rule self.byte_1 self.byte_2 n) (λ _. Unit {0}) result }
+    {
+        let told = usize::from(section_length(self.byte_1, self.byte_2));
+        refuse_when(told != n.saturating_sub(3), Refusal::SectionLength)
+    }
+
+    #[tactic(auto, using(crate::proofs::Masks::mask_1, crate::proofs::Masks::mask_5))]
+    fn check_marker_bits(self) -> Result<(), Refusal>
+        ensures { Obeys (marker_rule self.byte_1 self.byte_5) (λ _. Unit {0}) result }
+    {
+        refuse_when(
+            self.byte_1 & MARKERS_1 != MARKERS_1,
+            Refusal::MarkerBit { place: 1 },
+        )?;
+        refuse_when(
+            self.byte_5 & MARKERS_5 != MARKERS_5,
+            Refusal::MarkerBit { place: 5 },
+        )
+    }
+
+    #[tactic(auto, using(crate::proofs::Masks::mask_plain))]
+    fn check_plain(self, kind: Kind) -> Result<(), Refusal>
+        ensures { Obeys (plain_rule (table_id_of kind) self.byte_5) (λ _. Unit {0}) result }
+    {
+        match kind {
+            Kind::Datagram => {
+                refuse_when(self.byte_5 & SCRAMBLED_OR_WRAPPED != 0, Refusal::NotPlain)
+            }
+            Kind::Check => Ok(()),
         }
-        Kind::Check => {
-            let (padding_columns, number, last) = (bytes.byte_3, bytes.byte_6, bytes.byte_7);
-            let header = CheckHeader {
-                padding_columns,
-                number,
-                last,
-            };
-            header.check(rows, columns, address, payload.len())?;
-            Ok(Header::Check(header))
+    }
+
+    fn check_zeros(self) -> Result<(), Refusal>
+        ensures { Obeys (zeros_rule self.byte_6 self.byte_7) (λ _. Unit {0}) result }
+    {
+        refuse_when(self.byte_6 != 0, Refusal::Field { place: 6 })?;
+        refuse_when(self.byte_7 != 0, Refusal::Field { place: 7 })
+    }
+
+    // The kind of a section that begins so and that 4 to 9 do not turn away; `rest` is what follows its first 12 bytes.
+    fn check_envelope(self, section: &[u8], rest: &[u8]) -> Result<Kind, Refusal>
+        requires { length section.now ≡ 12 + length rest.now }
+        ensures { Obeys
+            (first (size_rule (length section.now) ∷ table_rule self.table_id
+            ∷ length_rule self.byte_1 self.byte_2 (length section.now) ∷ marker_rule self.byte_1 self.byte_5
+            ∷ plain_rule self.table_id self.byte_5 ∷ crc_rule section.now ∷ []))
+            (λ kind. table_id_of kind ≡ self.table_id) result }
+    {
+        check_size(rest)?;
+        let kind = Kind::try_from(self.table_id)?;
+        self.check_length(section.len())?;
+        self.check_marker_bits()?;
+        self.check_plain(kind)?;
+        check_crc(section)?;
+        Ok(kind)
+    }
+
+    // The header of a section of a kind that begins so, if 10 and 11 do not turn it away.
+    fn header(
+        self,
+        kind: Kind,
+        frame: FrameSize,
+        address: u32,
+        payload: &[u8],
+    ) -> Result<Header, Refusal>
+        ensures { Obeys
+            (first (field_rule frame.rows frame.check_columns (table_id_of kind) self.byte_3 self.byte_6 self.byte_7 address (length payload.now)
+            ∷ payload_rule (table_id_of kind) payload.now ∷ []))
+            (HeaderOf (table_id_of kind) self.byte_3 self.byte_4 self.byte_6 self.byte_7 payload.now) result }
+    {
+        match kind {
+            Kind::Datagram => {
+                self.check_zeros()?;
+                let version = whole_datagram(payload, 12)?;
+                let (mac_address_6, mac_address_5) = (self.byte_3, self.byte_4);
+                Ok(Header::Datagram(DatagramHeader {
+                    mac_address_6,
+                    mac_address_5,
+                    version,
+                }))
+            }
+            Kind::Check => {
+                let (padding_columns, number, last) = (self.byte_3, self.byte_6, self.byte_7);
+                let header = CheckHeader {
+                    padding_columns,
+                    number,
+                    last,
+                };
+                header.check(frame, address, payload.len())?;
+                Ok(Header::Check(header))
+            }
         }
     }
 }
 
-/// The fields of a section for a burst of so many rows and check columns, or the first refusal of 4 to 11 that fits.
+/// The fields of a section for a frame of this size, or the first refusal of 4 to 11 that fits.
 /// Bytes of any length and content get an answer. Writing the fields gives the section again, in every bit that is read.
-pub fn read(section: &[u8], rows: usize, columns: usize) -> Result<Section<'_>, Refusal>
-    ensures answer { Answers (read_rules rows columns section.now) (SectionOf section.now) result }
-    ensures again { IfOk result (WrittenAgain rows columns section.now) }
+pub fn read(section: &[u8], frame: FrameSize) -> Result<Section<'_>, Refusal>
+    ensures answer { Answers (read_rules frame.rows frame.check_columns section.now) (SectionOf section.now) result }
+    ensures again { IfOk result (WrittenAgain frame.rows frame.check_columns section.now) }
 {
     let [
         table_id,
@@ -251,16 +248,20 @@ pub fn read(section: &[u8], rows: usize, columns: usize) -> Result<Section<'_>, 
     else {
         return Err(Refusal::SectionSize);
     };
-    let kind = check_envelope(section, rest, *table_id, *byte_1, *byte_2, *byte_5)?;
-    let timing = RealTime::from_be_bytes([*t0, *t1, *t2, *t3]);
-    let payload = &section[12..section.len() - 4];
-    let bytes = KindBytes {
+    let front = Front {
+        table_id: *table_id,
+        byte_1: *byte_1,
+        byte_2: *byte_2,
         byte_3: *byte_3,
         byte_4: *byte_4,
+        byte_5: *byte_5,
         byte_6: *byte_6,
         byte_7: *byte_7,
     };
-    let header = read_header(kind, bytes, rows, columns, timing.address, payload)?;
+    let kind = front.check_envelope(section, rest)?;
+    let timing = RealTime::from_be_bytes([*t0, *t1, *t2, *t3]);
+    let payload = &section[12..section.len() - 4];
+    let header = front.header(kind, frame, timing.address, payload)?;
     Ok(Section {
         header,
         timing,

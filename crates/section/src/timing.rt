@@ -27,16 +27,17 @@ pub struct RealTime {
     pub address: u32,
 }
 
-// The fields of a number of 32 bits, cut out by shifts and masks.
-fn fields(word: u32) -> RealTime
-    ensures value { result ≡ real_time_of word }
-    ensures whole { real_time_word result ≡ word }
-{
-    RealTime {
-        delta_t: (word >> 20) as u16,
-        table_boundary: (word >> 19) & 1 == 1,
-        frame_boundary: (word >> 18) & 1 == 1,
-        address: word & MAX_ADDRESS,
+/// The fields that stand in a number of 32 bits, cut out by shifts and masks. Side by side they are the number again.
+impl From<u32> for RealTime {
+    ghost from_gives = { λ word fields. (fields ≡ real_time_of word) × (real_time_word fields ≡ word) };
+
+    fn from(word: u32) -> RealTime {
+        RealTime {
+            delta_t: (word >> 20) as u16,
+            table_boundary: (word >> 19) & 1 == 1,
+            frame_boundary: (word >> 18) & 1 == 1,
+            address: word & MAX_ADDRESS,
+        }
     }
 }
 
@@ -47,9 +48,10 @@ impl RealTime {
         requires address { self.address < 2 ^ 18 }
         ensures { result ≡ real_time_word self }
     {
-        let table = if self.table_boundary { 1 << 19 } else { 0 };
-        let frame = if self.frame_boundary { 1 << 18 } else { 0 };
-        ((self.delta_t as u32) << 20) + table + frame + self.address
+        (u32::from(self.delta_t) << 20)
+            + (u32::from(self.table_boundary) << 19)
+            + (u32::from(self.frame_boundary) << 18)
+            + self.address
     }
 
     /// The four bytes that hold the fields, as one big-endian number. Read back, they give these fields. An address of more
@@ -71,6 +73,6 @@ impl RealTime {
         ensures again { big_endian (real_time_word result) ≡ bytes }
         ensures writable { Passes (timing_rules result) }
     {
-        fields(u32::from_be_bytes(bytes))
+        RealTime::from(u32::from_be_bytes(bytes))
     }
 }
