@@ -12,12 +12,6 @@ use Rattle.section.specs.Kinds.{table_rule}
 use Rattle.section.specs.Rules.{size_rule, length_rule, marker_rule, plain_rule, crc_rule, field_rule, payload_rule, read_rules}
 use Rattle.section.specs.Sections.{payload_of, timing_of, HeaderOf, SectionOf}
 
-too_short : (n : ℕ) → n < 16 → size_rule n ≡ Some SectionSize
-too_short n h = rw (lt-ltb n 16 h)
-
-pub short_refused : (R m : ℕ) (s : List ℕ) → length s < 16 → Refused (read_rules R m s) SectionSize
-short_refused R m s h = refused_here (too_short (length s) h)
-
 abbrev envelope : List ℕ → List Verdict
 envelope s =
     size_rule (length s) ∷ table_rule (byte s 0) ∷ length_rule (byte s 1) (byte s 2) (length s) ∷ marker_rule (byte s 1) (byte s 5)

@@ -1,4 +1,4 @@
-pub mod Fronts
+pub mod Parts
 pub mod Allowed
 pub mod Back
 pub mod Order

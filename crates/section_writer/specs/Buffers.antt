@@ -4,9 +4,9 @@ use Rattle.section.specs.declared.reading.Header.{Header}
 use Rattle.section.specs.Kinds.{table_id_of}
 use Rattle.section.specs.Layout.{kind_of, bytes_of_length, bytes_of_kind}
 
--- the parts of a section in front of its CRC_32, where the four bytes of the real-time parameters are given
-abbrev pub before_crc : Header → (timing payload : List ℕ) → List ℕ
-before_crc h timing payload = (table_id_of (kind_of h) ∷ []) ++ bytes_of_length (16 + length payload) ++ bytes_of_kind h ++ timing ++ payload
+-- the twelve bytes in front of a payload of so many bytes, where the four bytes of the real-time parameters are given
+abbrev pub before_payload : Header → (timing : List ℕ) → (size : ℕ) → List ℕ
+before_payload h timing size = (table_id_of (kind_of h) ∷ []) ++ bytes_of_length (16 + size) ++ bytes_of_kind h ++ timing
 
 -- a buffer begins with these bytes, and behind them holds what it held before
 abbrev pub Begins : (bytes before after : List ℕ) → Type 0

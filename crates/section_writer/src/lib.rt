@@ -9,11 +9,11 @@ ghost use Rattle.section.specs.Datagrams.{whole_as};
 ghost use Rattle.section.specs.Laws.{ReadsAs};
 ghost use Rattle.section.specs.Layout.{bytes_of_length, bytes_of_kind, with_crc, written_of};
 ghost use Rattle.section.specs.Writing.{write_field_rule, write_payload_rule, write_rules};
-ghost use Rattle.section_writer.specs.Buffers.{Wrote, before_crc};
+ghost use Rattle.section_writer.specs.Buffers.{Wrote, before_payload};
 
 use crc32::crc_32;
 use refusal::{Refusal, refuse_when};
-use section::{Header, IpVersion, MAX_ADDRESS, Section, whole_datagram};
+use section::{FrameSize, Header, IpVersion, MAX_ADDRESS, Section, whole_datagram};
 
 /// The bytes that a buffer for a section has, as many as the longest section.
 pub const BUFFER: usize = 4096;
@@ -26,30 +26,27 @@ fn check_datagram(version: IpVersion, payload: &[u8]) -> Result<(), Refusal>
     ensures { Obeys (when (not (whole_as version payload.now)) (NotOneDatagram 12)) (λ _. Unit {0}) result }
 {
     let told = whole_datagram(payload, 12)?;
-    refuse_when(
-        told.number() != version.number(),
-        Refusal::NotOneDatagram { place: 12 },
-    )
+    refuse_when(told != version, Refusal::NotOneDatagram { place: 12 })
 }
 
 // The address is that of the check column with this number, and has 18 bits.
-fn column_address(address: u32, number: u8, rows: usize) -> bool
-    ensures { result ≡ (address == number * rows && nat_lt address (2 ^ 18)) }
+fn column_address(frame: FrameSize, address: u32, number: u8) -> bool
+    ensures { result ≡ (address == number * frame.rows && nat_lt address (2 ^ 18)) }
 {
-    address as u128 == number as u128 * rows as u128 && address <= MAX_ADDRESS
+    u128::from(address) == frame.column_address(number) && address <= MAX_ADDRESS
 }
 
 // The payload is a check column, and a section can carry it.
-fn column_size(size: usize, rows: usize) -> bool
-    ensures { result ≡ (size == rows && nat_le size 4080) }
+fn column_size(frame: FrameSize, size: usize) -> bool
+    ensures { result ≡ (size == frame.rows && nat_le size 4080) }
 {
-    size == rows && size <= MAX_PAYLOAD
+    size == frame.rows && size <= MAX_PAYLOAD
 }
 
 // The fields of a section that 10 and 11 do not turn away.
-fn check_fields(section: Section<'_>, rows: usize, columns: usize) -> Result<(), Refusal>
+fn check_fields(section: Section<'_>, frame: FrameSize) -> Result<(), Refusal>
     ensures { Obeys
-        (first (write_field_rule rows columns section.entry.header section.entry.timing.address (length section.entry.payload.now)
+        (first (write_field_rule frame.rows frame.check_columns section.entry.header section.entry.timing.address (length section.entry.payload.now)
         ∷ write_payload_rule section.entry.header section.entry.payload.now ∷ []))
         (λ _. Unit {0}) result }
 {
@@ -60,9 +57,10 @@ fn check_fields(section: Section<'_>, rows: usize, columns: usize) -> Result<(),
             check_datagram(header.version, section.payload)
         }
         Header::Check(header) => {
-            header.check_fields(columns, column_address(address, header.number, rows))?;
+            let address_fits = column_address(frame, address, header.number);
+            header.check_fields(frame.check_columns, address_fits)?;
             refuse_when(
-                !column_size(section.payload.len(), rows),
+                !column_size(frame, section.payload.len()),
                 Refusal::Field { place: 12 },
             )
         }
@@ -95,69 +93,78 @@ fn kind_bytes(header: Header) -> [u8; 5]
     }
 }
 
-// Writes bytes into a buffer from a place on, and answers the place behind them.
-fn put(buffer: &mut [u8], place: usize, bytes: &[u8]) -> usize
-    requires { place + length bytes.now ≤ length buffer.old }
-    ensures end { result ≡ place + length bytes.now }
-    ensures after { buffer.new ≡ take place buffer.old ++ (bytes.now ++ drop (length bytes.now) (drop place buffer.old)) }
+// The twelve bytes in front of a payload of so many bytes.
+fn header_bytes(header: Header, timing: [u8; 4], size: usize) -> [u8; 12]
+    requires { size ≤ 4080 }
+    ensures { result ≡ before_payload header timing size }
 {
-    let end = place + bytes.len();
-    buffer[place..end].copy_from_slice(bytes);
-    end
+    let [length_1, length_2] = length_bytes(size);
+    let [kind_1, kind_2, kind_3, kind_4, kind_5] = kind_bytes(header);
+    let [t0, t1, t2, t3] = timing;
+    [
+        header.kind().table_id(),
+        length_1,
+        length_2,
+        kind_1,
+        kind_2,
+        kind_3,
+        kind_4,
+        kind_5,
+        t0,
+        t1,
+        t2,
+        t3,
+    ]
 }
 
-// The CRC_32 of a buffer's bytes up to a place, as it is written behind them.
-fn crc_bytes(buffer: &[u8], end: usize) -> [u8; 4]
-    requires { end ≤ length buffer.now }
-    ensures { result ≡ big_endian (crc (take end buffer.now)) }
+// The CRC_32 of a message, as it is written behind it.
+fn crc_bytes(message: &[u8]) -> [u8; 4]
+    ensures { result ≡ big_endian (crc message.now) }
 {
-    crc_32(&buffer[0..end]).to_be_bytes()
+    crc_32(message).to_be_bytes()
 }
 
-// Fills a part of a buffer that is just as long as the section with it, CRC_32 last.
-fn fill_part(part: &mut [u8], header: Header, timing: [u8; 4], payload: &[u8])
-    requires payload { length payload.now ≤ 4080 }
-    requires part { length part.old ≡ 16 + length payload.now }
-    ensures { part.new ≡ with_crc (before_crc header timing payload.now) }
+// Fills a part of a buffer that is just as long as the section with it: header, payload, and the CRC_32 of both.
+fn fill_part(part: &mut [u8], header: [u8; 12], payload: &[u8])
+    requires { length part.old ≡ 16 + length payload.now }
+    ensures { part.new ≡ with_crc (header ++ payload.now) }
 {
-    let place = put(part, 0, &[header.kind().table_id()]);
-    let place = put(part, place, &length_bytes(payload.len()));
-    let place = put(part, place, &kind_bytes(header));
-    let place = put(part, place, &timing);
-    let place = put(part, place, payload);
-    put(part, place, &crc_bytes(part, place));
+    let end = 12 + payload.len();
+    part[..12].copy_from_slice(&header);
+    part[12..end].copy_from_slice(payload);
+    let crc = crc_bytes(&part[..end]);
+    part[end..].copy_from_slice(&crc);
 }
 
 // Lays a section to the beginning of a buffer, and answers its length.
-fn lay(buffer: &mut [u8], header: Header, timing: [u8; 4], payload: &[u8]) -> usize
-    requires payload { length payload.now ≤ 4080 }
+fn lay(buffer: &mut [u8], section: Section<'_>, timing: [u8; 4]) -> usize
+    requires payload { length section.payload.now ≤ 4080 }
     requires buffer { length buffer.old ≡ 4096 }
-    ensures len { result ≡ 16 + length payload.now }
-    ensures after { buffer.new ≡ with_crc (before_crc header timing payload.now) ++ drop result buffer.old }
+    ensures len { result ≡ 16 + length section.entry.payload.now }
+    ensures after { buffer.new
+        ≡ with_crc (before_payload section.entry.header timing (length section.entry.payload.now) ++ section.entry.payload.now)
+        ++ drop result buffer.old }
 {
-    let n = 16 + payload.len();
-    fill_part(&mut buffer[0..n], header, timing, payload);
+    let size = section.payload.len();
+    let n = 16 + size;
+    let header = header_bytes(section.header, timing, size);
+    fill_part(&mut buffer[..n], header, section.payload);
     n
 }
 
-/// Writes a section for a burst of so many rows and check columns to the beginning of a buffer of 4,096 bytes, and answers
-/// its length: exactly the bytes of the format; what stands behind them stays. It is refused under 10, 11 or 15, and then
-/// nothing is written. Reading what was written gives the same fields and payload.
-pub fn write(
-    section: Section<'_>,
-    rows: usize,
-    columns: usize,
-    buffer: &mut [u8],
-) -> Result<usize, Refusal>
+/// Writes a section for a frame of this size to the beginning of a buffer of 4,096 bytes, and answers its length: exactly
+/// the bytes of the format; what stands behind them stays. It is refused under 10, 11 or 15, and then nothing is written.
+/// Reading what was written gives the same fields and payload.
+pub fn write(section: Section<'_>, frame: FrameSize, buffer: &mut [u8]) -> Result<usize, Refusal>
     ensures answer { Answers
-        (write_rules rows columns section.entry.header section.entry.timing section.entry.payload.now (length buffer.old))
+        (write_rules frame.rows frame.check_columns section.entry.header section.entry.timing section.entry.payload.now (length buffer.old))
         (Wrote (written_of section.entry) buffer.old buffer.new) result }
     ensures stays { OnErr result (buffer.new ≡ buffer.old) }
-    ensures back { IfOk result (λ n. ReadsAs rows columns (take n buffer.new) section.entry) }
+    ensures back { IfOk result (λ n. ReadsAs frame.rows frame.check_columns (take n buffer.new) section.entry) }
 {
-    check_fields(section, rows, columns)?;
+    check_fields(section, frame)?;
     check_room(buffer.len())?;
     // Only delta_t can still be refused here: the address was tested with the other fields.
     let timing = section.timing.to_be_bytes()?;
-    Ok(lay(buffer, section.header, timing, section.payload))
+    Ok(lay(buffer, section, timing))
 }

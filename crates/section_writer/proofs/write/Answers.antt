@@ -1,55 +1,44 @@
--- Three ways out by a refusal, with the buffer as it was, and one with the section written.
-use Rattle.std.proofs.Common.{◌≡◌, ◌++◌, length, drop, sym, refl, ◌∙◌, subst}
-use Rattle.refusal.proofs.Order.{exits, exits_unmade, exits_unchanged}
+-- Three ways out by a refusal, and one with the section written.
+use Rattle.std.proofs.Common.{◌≡◌, ◌++◌, length, drop, sym, ◌∙◌, subst}
+use Rattle.refusal.proofs.Order.{exits}
 use Rattle.section.specs.Layout.{written, written_of}
 use Rattle.section.specs.Laws.{ReadsAs}
 use Rattle.section.proofs.LaidOut.{written_length}
 use Rattle.section_writer.specs.Buffers.{Wrote}
 use Rattle.section_writer.proofs.Back.{reads_back}
-use Rattle.section_writer.proofs.Fronts.{wrote_first}
+use Rattle.section_writer.proofs.Parts.{wrote_first}
 use Rattle.section_writer.proofs.Order.{content_refused, buffer_refused, timing_refused, all_pass}
 use Rattle.section_writer.proofs.write.Goals as goal
 
-pub returns-in_err-check_fields : goal.returns-in_err-check_fields
-returns-in_err-check_fields c =
+pub returns-in_err-check_fields-clause-answer : goal.returns-in_err-check_fields-clause-answer
+returns-in_err-check_fields-clause-answer c =
     let x = c.args.section in
     let r = c.from_residual in
-    record {
-      answer = exits _ _ r.result _ r.ensures.1
-          (content_refused c.args.rows c.args.columns x.header x.timing x.payload.now (length c.args.buffer.now) _ c.in_err-check_fields.ensures);
-      stays = exits_unchanged _ _ r.result r.ensures.1 refl;
-      back = exits_unmade _ _ r.result r.ensures.1;
-    }
+    exits _ _ r.result _ r.ensures.1
+    (content_refused c.args.frame.rows c.args.frame.check_columns x.header x.timing x.payload.now (length c.args.buffer.now) _ c.in_err-check_fields.ensures)
 
-pub returns-in_err-check_room : goal.returns-in_err-check_room
-returns-in_err-check_room c =
+pub returns-in_err-check_room-clause-answer : goal.returns-in_err-check_room-clause-answer
+returns-in_err-check_room-clause-answer c =
     let x = c.args.section in
     let r = c.from_residual-in_err-check_room in
-    record {
-      answer = exits _ _ r.result _ r.ensures.1
-          (buffer_refused c.args.rows c.args.columns x.header x.timing x.payload.now (length c.args.buffer.now) _ c.in_ok-check_fields.ensures.0 c.in_err-check_room.ensures);
-      stays = exits_unchanged _ _ r.result r.ensures.1 refl;
-      back = exits_unmade _ _ r.result r.ensures.1;
-    }
+    exits _ _ r.result _ r.ensures.1
+    (buffer_refused c.args.frame.rows c.args.frame.check_columns x.header x.timing x.payload.now (length c.args.buffer.now) _ c.in_ok-check_fields.ensures.0
+    c.in_err-check_room.ensures)
 
-pub returns-in_err-timing : goal.returns-in_err-timing
-returns-in_err-timing c =
+pub returns-in_err-timing-clause-answer : goal.returns-in_err-timing-clause-answer
+returns-in_err-timing-clause-answer c =
     let x = c.args.section in
     let r = c.from_residual-in_err-timing in
-    record {
-      answer = exits _ _ r.result _ r.ensures.1
-          (timing_refused c.args.rows c.args.columns x.header x.timing x.payload.now (length c.args.buffer.now) _ c.in_ok-check_fields.ensures.0
-          c.in_ok-check_room.ensures.0 c.in_err-timing.ensures.answer);
-      stays = exits_unchanged _ _ r.result r.ensures.1 refl;
-      back = exits_unmade _ _ r.result r.ensures.1;
-    }
+    exits _ _ r.result _ r.ensures.1
+    (timing_refused c.args.frame.rows c.args.frame.check_columns x.header x.timing x.payload.now (length c.args.buffer.now) _ c.in_ok-check_fields.ensures.0
+    c.in_ok-check_room.ensures.0 c.in_err-timing.ensures.answer)
 
 pub returns : goal.returns
 unfolding written
 returns c =
     let x = c.args.section in
     let timing = c.in_ok-timing.ensures.answer in
-    let passes = all_pass c.args.rows c.args.columns x.header x.timing x.payload.now (length c.args.buffer.now) c.in_ok-check_fields.ensures.0
+    let passes = all_pass c.args.frame.rows c.args.frame.check_columns x.header x.timing x.payload.now (length c.args.buffer.now) c.in_ok-check_fields.ensures.0
     c.in_ok-check_room.ensures.0 timing.0 in
     let after : c.lay.new.buffer ≡ written_of x ++ drop c.lay.result c.args.buffer.now = rw timing.1 at c.lay.ensures.after in
     let size = c.lay.ensures.len ∙ sym (written_length x.header x.timing x.payload.now) in
@@ -57,5 +46,5 @@ returns c =
     record {
       answer = (passes, wrote);
       stays = tt;
-      back = subst (λ s. ReadsAs c.args.rows c.args.columns s x) (sym (wrote_first (written_of x) _ _ _ wrote)) (reads_back c.args.rows c.args.columns x _ passes);
+      back = subst (λ s. ReadsAs c.args.frame.rows c.args.frame.check_columns s x) (sym (wrote_first (written_of x) _ _ _ wrote)) (reads_back c.args.frame.rows c.args.frame.check_columns x _ passes);
     }
