@@ -12,13 +12,5 @@ word_bytes a b c d ha hb hc hd =
     let is_d : w % 256 ≡ d = omega arith in
     cc
 
-pub bytes_again : (b : List ℕ) → length b ≡ 4 → Bytes b → big_endian (word32 b 0) ≡ b
-bytes_again [] l p = absurd (omega arith)
-bytes_again (_ ∷ []) l p = absurd (omega arith)
-bytes_again (_ ∷ _ ∷ []) l p = absurd (omega arith)
-bytes_again (_ ∷ _ ∷ _ ∷ []) l p = absurd (omega arith)
-bytes_again (a ∷ b ∷ c ∷ d ∷ []) l p = word_bytes a b c d (p 0 (lit< tt)) (p 1 (lit< tt)) (p 2 (lit< tt)) (p 3 (lit< tt))
-bytes_again (_ ∷ _ ∷ _ ∷ _ ∷ _ ∷ _) l p = absurd (omega arith)
-
 pub word_again : (n : ℕ) → word32 (big_endian n) 0 ≡ n
 word_again n = omega arith

@@ -68,21 +68,6 @@ pub exits : {T : Type 0} (rules : List Verdict) (Done : T → Type 0) (r : Resul
 exits rules Done (Ok x) e handed refused = absurd handed
 exits rules Done (Err y) e handed refused = rw handed refused
 
--- the same for a single rule
-pub exits_rule : {T : Type 0} (rule : Verdict) (Done : T → Type 0) (r : Result T Refusal) (e : Refusal) → IsErrAnd r (λ y. y ≡ e) → rule ≡ Some e → Obeys rule Done r
-exits_rule rule Done (Ok x) e handed given = absurd handed
-exits_rule rule Done (Err y) e handed given = rw handed given
-
--- and nothing is made then
-pub exits_unmade : {T : Type 0} (Done : T → Type 0) (Handed : Refusal → Type 0) (r : Result T Refusal) → IsErrAnd r Handed → IfOk r Done
-exits_unmade Done Handed (Ok x) handed = absurd handed
-exits_unmade Done Handed (Err e) handed = tt
-
--- nor is anything changed, where nothing was by then
-pub exits_unchanged : {T : Type 0} (Unchanged : Type 0) (Handed : Refusal → Type 0) (r : Result T Refusal) → IsErrAnd r Handed → Unchanged → IfErr r (λ _. Unchanged)
-exits_unchanged Unchanged Handed (Ok x) handed same = absurd handed
-exits_unchanged Unchanged Handed (Err e) handed same = same
-
 -- several rules as one give the answer of their list
 pub first_passes : (rules : List Verdict) → first rules ≡ None → Passes rules
 first_passes [] none = passes_end
