@@ -11,6 +11,12 @@ pub struct FrameSize {
 }
 
 impl FrameSize {
+    /// The smallest frame with the check columns of RS(255,191).
+    pub const RS_256: FrameSize = FrameSize {
+        rows: 256,
+        check_columns: 64,
+    };
+
     /// Where the check column with this number begins in the RS table.
     pub fn column_address(self, number: u8) -> u128
         ensures { result ≡ number * self.rows }

@@ -93,12 +93,11 @@ fn kind_bytes(header: Header) -> [u8; 5]
     }
 }
 
-// The twelve bytes in front of a payload of so many bytes.
-fn header_bytes(header: Header, timing: [u8; 4], size: usize) -> [u8; 12]
-    requires { size ≤ 4080 }
-    ensures { result ≡ before_payload header timing size }
+// The twelve bytes in front of a payload, of which bytes 1 and 2 and the last four are given.
+fn header_bytes(header: Header, length: [u8; 2], timing: [u8; 4]) -> [u8; 12]
+    ensures { result ≡ before_payload header length timing }
 {
-    let [length_1, length_2] = length_bytes(size);
+    let [length_1, length_2] = length;
     let [kind_1, kind_2, kind_3, kind_4, kind_5] = kind_bytes(header);
     let [t0, t1, t2, t3] = timing;
     [
@@ -142,12 +141,12 @@ fn lay(buffer: &mut [u8], section: Section<'_>, timing: [u8; 4]) -> usize
     requires buffer { length buffer.old ≡ 4096 }
     ensures len { result ≡ 16 + length section.entry.payload.now }
     ensures after { buffer.new
-        ≡ with_crc (before_payload section.entry.header timing (length section.entry.payload.now) ++ section.entry.payload.now)
+        ≡ with_crc (before_payload section.entry.header (bytes_of_length (16 + length section.entry.payload.now)) timing ++ section.entry.payload.now)
         ++ drop result buffer.old }
 {
     let size = section.payload.len();
     let n = 16 + size;
-    let header = header_bytes(section.header, timing, size);
+    let header = header_bytes(section.header, length_bytes(size), timing);
     fill_part(&mut buffer[..n], header, section.payload);
     n
 }

@@ -1,11 +1,19 @@
-use Rattle.std.proofs.Common.{◌≡◌, ℕ, List, [], ◌∷◌, ◌++◌, length, get_or, refl, arith, rules}
+use Rattle.std.proofs.Common.{◌≡◌, ℕ, List, [], ◌∷◌, ◌++◌, length, get_or, sym, refl, ap, ◌∙◌, append_assoc, arith, rules}
 use Rattle.section.specs.declared.reading.Header.{Header}
 use Rattle.section.specs.declared.reading.Header.TheVariants.{Datagram, Check}
-use Rattle.section.specs.Layout.{bytes_of_kind}
+use Rattle.section.specs.Kinds.{table_id_of}
+use Rattle.section.specs.Layout.{kind_of, bytes_of_kind}
 use Rattle.section_writer.proofs.header_bytes.Goals as goal
 
+-- two bytes, one by one, and what follows them
+two : (b rest : List ℕ) → length b ≡ 2 → get_or b 0 0 ∷ get_or b 1 0 ∷ rest ≡ b ++ rest
+two [] rest l = absurd (omega arith)
+two (_ ∷ []) rest l = absurd (omega arith)
+two (_ ∷ _ ∷ []) rest l = refl
+two (_ ∷ _ ∷ _ ∷ _) rest l = absurd (omega arith)
+
 -- four bytes, one by one
-four : (t : List ℕ) → length t ≡ 4 → get_or t 0 0 ∷ get_or t 1 0 ∷ get_or t 2 0 ∷ get_or t 3 0 ∷ [] ≡ t
+four : (b : List ℕ) → length b ≡ 4 → get_or b 0 0 ∷ get_or b 1 0 ∷ get_or b 2 0 ∷ get_or b 3 0 ∷ [] ≡ b
 four [] l = absurd (omega arith)
 four (_ ∷ []) l = absurd (omega arith)
 four (_ ∷ _ ∷ []) l = absurd (omega arith)
@@ -20,8 +28,9 @@ five (Check h) t = refl
 
 pub returns : goal.returns
 returns c =
-    let id = c.table_id.ensures in
-    let kind = c.kind.ensures in
-    let timing = four c.args.timing (search rules) in
-    let bytes = five c.args.header c.args.timing in
-    rw (c.length_bytes.ensures, c.kind_bytes.ensures, timing, id, kind) (rw bytes refl)
+    let h = c.args.header in
+    let told = c.args.length in
+    let timing = c.args.timing in
+    rw (c.kind_bytes.ensures, four timing (search rules), five h timing, c.table_id.ensures, c.kind.ensures)
+    (ap (λ (b : List ℕ). table_id_of (kind_of h) ∷ b)
+    (two told (bytes_of_kind h ++ timing) (search rules) ∙ sym (append_assoc told (bytes_of_kind h) timing)))
