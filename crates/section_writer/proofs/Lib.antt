@@ -1,4 +1,3 @@
-pub mod Parts
 pub mod Allowed
 pub mod Back
 pub mod Order

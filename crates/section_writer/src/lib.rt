@@ -123,16 +123,25 @@ fn crc_bytes(message: &[u8]) -> [u8; 4]
     crc_32(message).to_be_bytes()
 }
 
+// Fills what is just as long as header and payload with the two.
+fn fill_message(message: &mut [u8], header: [u8; 12], payload: &[u8])
+    requires { length message.old ≡ 12 + length payload.now }
+    ensures { message.new ≡ header ++ payload.now }
+{
+    let (front, rest) = message.split_at_mut(12);
+    front.copy_from_slice(&header);
+    rest.copy_from_slice(payload);
+}
+
 // Fills a part of a buffer that is just as long as the section with it: header, payload, and the CRC_32 of both.
 fn fill_part(part: &mut [u8], header: [u8; 12], payload: &[u8])
     requires { length part.old ≡ 16 + length payload.now }
     ensures { part.new ≡ with_crc (header ++ payload.now) }
 {
     let end = 12 + payload.len();
-    part[..12].copy_from_slice(&header);
-    part[12..end].copy_from_slice(payload);
-    let crc = crc_bytes(&part[..end]);
-    part[end..].copy_from_slice(&crc);
+    let (message, closing) = part.split_at_mut(end);
+    fill_message(message, header, payload);
+    closing.copy_from_slice(&crc_bytes(message));
 }
 
 // Lays a section to the beginning of a buffer, and answers its length.

@@ -1,14 +1,18 @@
 -- Three ways out by a refusal, and one with the section written.
-use Rattle.std.proofs.Common.{◌≡◌, ◌++◌, length, drop, sym, ◌∙◌, subst}
+use Rattle.std.proofs.Common.{◌≡◌, ℕ, List, ◌++◌, length, take, drop, sym, refl, ◌∙◌, subst}
+use Rattle.std.proofs.lemmas.List.{take_at}
 use Rattle.refusal.proofs.Order.{exits}
 use Rattle.section.specs.Layout.{written, written_of}
 use Rattle.section.specs.Laws.{ReadsAs}
 use Rattle.section.proofs.LaidOut.{written_length}
 use Rattle.section_writer.specs.Buffers.{Wrote}
 use Rattle.section_writer.proofs.Back.{reads_back}
-use Rattle.section_writer.proofs.Parts.{wrote_first}
 use Rattle.section_writer.proofs.Order.{content_refused, buffer_refused, timing_refused, all_pass}
 use Rattle.section_writer.proofs.write.Goals as goal
+
+-- the bytes that were written are the first of the buffer
+wrote_first : (bytes before after : List ℕ) (n : ℕ) → Wrote bytes before after n → take n after ≡ bytes
+wrote_first bytes before after n wrote = rw (wrote.buffer, wrote.len) (take_at bytes (drop (length bytes) before) (length bytes) refl)
 
 pub returns-in_err-check_fields-clause-answer : goal.returns-in_err-check_fields-clause-answer
 returns-in_err-check_fields-clause-answer c =
