@@ -1,6 +1,6 @@
-use Rattle.std.proofs.Common.{◌≡◌, ◌+◌, ◌++◌, length, take, ap, ◌∙◌, arith, rules}
+use Rattle.std.proofs.Common.{◌≡◌, ◌+◌, ◌++◌, length, take, rules}
 use Rattle.crc32.specs.Crc.{crc, big_endian}
-use Rattle.section_writer.proofs.Parts.{after_header, after_payload, message, closed_by}
+use Rattle.section_writer.proofs.Parts.{after_payload, message, closed_by}
 use Rattle.section_writer.proofs.fill_part.Goals as goal
 
 pub returns : goal.returns

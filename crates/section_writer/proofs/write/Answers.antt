@@ -1,6 +1,6 @@
 -- Three ways out by a refusal, and one with the section written.
 use Rattle.std.proofs.Common.{◌≡◌, ◌++◌, length, drop, sym, ◌∙◌, subst}
-use Rattle.refusal.proofs.Order.{exits}
+use Rattle.std.proofs.lemmas.Result.{err_from_is_err_and}
 use Rattle.section.specs.Layout.{written, written_of}
 use Rattle.section.specs.Laws.{ReadsAs}
 use Rattle.section.proofs.LaidOut.{written_length}
@@ -13,23 +13,23 @@ use Rattle.section_writer.proofs.write.Goals as goal
 pub returns-in_err-check_fields-clause-answer : goal.returns-in_err-check_fields-clause-answer
 returns-in_err-check_fields-clause-answer c =
     let x = c.args.section in
-    let r = c.from_residual in
-    exits _ _ r.result _ r.ensures.1
+    let e = err_from_is_err_and c.from_residual.result c.from_residual.ensures.1 in
+    rw (e.1, e.2)
     (content_refused c.args.frame.rows c.args.frame.check_columns x.header x.timing x.payload.now (length c.args.buffer.now) _ c.in_err-check_fields.ensures)
 
 pub returns-in_err-check_room-clause-answer : goal.returns-in_err-check_room-clause-answer
 returns-in_err-check_room-clause-answer c =
     let x = c.args.section in
-    let r = c.from_residual-in_err-check_room in
-    exits _ _ r.result _ r.ensures.1
+    let e = err_from_is_err_and c.from_residual-in_err-check_room.result c.from_residual-in_err-check_room.ensures.1 in
+    rw (e.1, e.2)
     (buffer_refused c.args.frame.rows c.args.frame.check_columns x.header x.timing x.payload.now (length c.args.buffer.now) _ c.in_ok-check_fields.ensures.0
     c.in_err-check_room.ensures)
 
 pub returns-in_err-timing-clause-answer : goal.returns-in_err-timing-clause-answer
 returns-in_err-timing-clause-answer c =
     let x = c.args.section in
-    let r = c.from_residual-in_err-timing in
-    exits _ _ r.result _ r.ensures.1
+    let e = err_from_is_err_and c.from_residual-in_err-timing.result c.from_residual-in_err-timing.ensures.1 in
+    rw (e.1, e.2)
     (timing_refused c.args.frame.rows c.args.frame.check_columns x.header x.timing x.payload.now (length c.args.buffer.now) _ c.in_ok-check_fields.ensures.0
     c.in_ok-check_room.ensures.0 c.in_err-timing.ensures.answer)
 
