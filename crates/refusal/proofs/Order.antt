@@ -1,38 +1,16 @@
--- The order of rules: an answer put together rule by rule, and that a list of rules settles a call.
-use Rattle.std.proofs.Common.{◌≡◌, ℕ, zero, suc, ◌<◌, Bool, true, false, ◌⊎◌, List, [], ◌∷◌, ◌++◌, get_or, IsErrAnd, IfOk, IfErr, Some, None, Ok, Err, Result, refl, inl, inr, ⊎_elim, suc-le-suc, zero-le, le_of_suc-le-suc, arith}
-use Rattle.std.proofs.lemmas.Bool.{cases_order}
+-- The order of rules: a list of rules answers as `first` of it does, and so settles a call.
+use Rattle.std.proofs.Common.{◌≡◌, ℕ, zero, suc, ◌<◌, Bool, true, false, not, ◌⊎◌, List, [], ◌∷◌, ◌++◌, get_or, Some, None, Ok, Err, Result, refl, inl, inr, suc-le-suc, zero-le, le_of_suc-le-suc, arith}
 use Rattle.refusal.specs.declared.Refusal.{Refusal}
 use Rattle.refusal.specs.Rules.{Verdict, when, or_else, first, Refused, Passes, Answers, Obeys, Settles}
-
-pub refused_here : {rule : Verdict} {rules : List Verdict} {e : Refusal} → rule ≡ Some e → Refused (rule ∷ rules) e
-refused_here given = record { at = 0; gives = given; before = λ k h. absurd (let z : k < 0 = h in omega arith) }
-
-before_later : {rule : Verdict} (rules : List Verdict) (at : ℕ) → rule ≡ None → ((k : ℕ) → k < at → get_or rules k None ≡ None) → (k : ℕ) → k < suc at → get_or (rule ∷ rules) k None ≡ None
-before_later rules at none before zero h = none
-before_later rules at none before (suc k) h = before k (le_of_suc-le-suc h)
-
-refused_later : {rule : Verdict} {rules : List Verdict} {e : Refusal} → rule ≡ None → Refused rules e → Refused (rule ∷ rules) e
-refused_later {rules = rules} none later =
-    record { at = suc later.at; gives = later.gives; before = before_later rules later.at none later.before }
-
-pub passes_end : Passes []
-passes_end = record { none = λ k. refl }
-
-none_more : {rule : Verdict} (rules : List Verdict) → rule ≡ None → Passes rules → (k : ℕ) → get_or (rule ∷ rules) k None ≡ None
-none_more rules none rest zero = none
-none_more rules none rest (suc k) = rest.none k
-
-pub passes_more : {rule : Verdict} {rules : List Verdict} → rule ≡ None → Passes rules → Passes (rule ∷ rules)
-passes_more {rules = rules} none rest = record { none = none_more rules none rest }
-
--- a rule that fits is not passed over
-fits_counts : (v : Verdict) (e : Refusal) → v ≡ Some e → v ≡ None → ⊥
-fits_counts v e some none = let z : ◌≡◌ {A = ℕ} 0 1 = cc in omega arith
 
 -- a rule that does not fit, taken apart
 pub when_none : (fits : Bool) (e : Refusal) → when fits e ≡ None → fits ≡ false
 when_none true e none = cc
 when_none false e none = refl
+
+pub when_not_none : (holds : Bool) (e : Refusal) → when (not holds) e ≡ None → holds ≡ true
+when_not_none true e none = refl
+when_not_none false e none = cc
 
 pub or_else_none : (v later : Verdict) → or_else v later ≡ None → (v ≡ None) × (later ≡ None)
 or_else_none (Some e) later none = (none, cc)
@@ -42,60 +20,56 @@ pub or_else_assoc : (u v w : Verdict) → or_else (or_else u v) w ≡ or_else u 
 or_else_assoc (Some e) v w = refl
 or_else_assoc None v w = refl
 
--- an answer to a list of rules, once those in front of it have passed
-answers_later : {T : Type 0} {rule : Verdict} (rules : List Verdict) (Done : T → Type 0) (r : Result T Refusal) → rule ≡ None → Answers rules Done r → Answers (rule ∷ rules) Done r
-answers_later rules Done (Ok x) none (passes, done) = (passes_more none passes, done)
-answers_later rules Done (Err e) none refused = refused_later none refused
+-- the rules in front, then those behind
+pub first_append : (front back : List Verdict) → first (front ++ back) ≡ or_else (first front) (first back)
+first_append [] back = refl
+first_append (Some e ∷ front) back = refl
+first_append (None ∷ front) back = first_append front back
 
-pub answers_after : {T : Type 0} (front back : List Verdict) (Done : T → Type 0) (r : Result T Refusal) → Passes front → Answers back Done r → Answers (front ++ back) Done r
-answers_after [] back Done r passes later = later
-answers_after (rule ∷ front) back Done r passes later =
-    answers_later (front ++ back) Done r (passes.none 0)
-    (answers_after front back Done r (record { none = λ k. passes.none (suc k) }) later)
+-- no rule fits
+none_at : (rules : List Verdict) → first rules ≡ None → (k : ℕ) → get_or rules k None ≡ None
+none_at [] none k = refl
+none_at (Some e ∷ rules) none k = cc
+none_at (None ∷ rules) none zero = refl
+none_at (None ∷ rules) none (suc k) = none_at rules none k
 
--- a refusal by the rules in front
-within : (front back : List Verdict) (e : Refusal) (at : ℕ) → get_or front at None ≡ Some e → ((k : ℕ) → k < at → get_or front k None ≡ None) → Refused (front ++ back) e
-within [] back e at gives before = absurd (fits_counts _ e gives refl)
-within (rule ∷ front) back e zero gives before = refused_here gives
-within (rule ∷ front) back e (suc at) gives before =
-    refused_later (before 0 (suc-le-suc zero-le)) (within front back e at gives (λ k h. before (suc k) (suc-le-suc h)))
-
-pub refused_within : (front back : List Verdict) {e : Refusal} → Refused front e → Refused (front ++ back) e
-refused_within front back {e} refused = within front back e refused.at refused.gives refused.before
-
--- a refusal that a `?` hands on
-pub exits : {T : Type 0} (rules : List Verdict) (Done : T → Type 0) (r : Result T Refusal) (e : Refusal) → IsErrAnd r (λ y. y ≡ e) → Refused rules e → Answers rules Done r
-exits rules Done (Ok x) e handed refused = absurd handed
-exits rules Done (Err y) e handed refused = rw handed refused
-
--- several rules as one give the answer of their list
 pub first_passes : (rules : List Verdict) → first rules ≡ None → Passes rules
-first_passes [] none = passes_end
-first_passes (Some e ∷ rules) none = absurd (fits_counts _ e refl none)
-first_passes (None ∷ rules) none = passes_more refl (first_passes rules none)
+first_passes rules none = record { none = none_at rules none }
+
+-- a rule fits, and none before it
+none_before : (rules : List Verdict) (at : ℕ) → ((k : ℕ) → k < at → get_or rules k None ≡ None) → (k : ℕ) → k < suc at → get_or (None ∷ rules) k None ≡ None
+none_before rules at before zero h = refl
+none_before rules at before (suc k) h = before k (le_of_suc-le-suc h)
 
 pub first_refuses : (rules : List Verdict) (e : Refusal) → first rules ≡ Some e → Refused rules e
-first_refuses [] e some = absurd (fits_counts _ e some refl)
-first_refuses (Some f ∷ rules) e some = refused_here some
-first_refuses (None ∷ rules) e some = refused_later refl (first_refuses rules e some)
+first_refuses [] e some = cc
+first_refuses (Some f ∷ rules) e some = record { at = 0; gives = some; before = λ k h. absurd (omega arith) }
+first_refuses (None ∷ rules) e some =
+    let later = first_refuses rules e some in
+    record { at = suc later.at; gives = later.gives; before = none_before rules later.at later.before }
 
+-- and conversely
+refused_at : (rules : List Verdict) (e : Refusal) (at : ℕ) → get_or rules at None ≡ Some e → ((k : ℕ) → k < at → get_or rules k None ≡ None) → first rules ≡ Some e
+refused_at [] e at gives before = gives
+refused_at (rule ∷ rules) e zero gives before = rw gives
+refused_at (rule ∷ rules) e (suc at) gives before =
+    rw (before 0 (suc-le-suc zero-le)) (refused_at rules e at gives (λ k h. before (suc k) (suc-le-suc h)))
+
+pub refused_first : (rules : List Verdict) (e : Refusal) → Refused rules e → first rules ≡ Some e
+refused_first rules e refused = refused_at rules e refused.at refused.gives refused.before
+
+-- several rules as one give the answer of their list
 pub answers_first : {T : Type 0} (rules : List Verdict) (Done : T → Type 0) (r : Result T Refusal) → Obeys (first rules) Done r → Answers rules Done r
 answers_first rules Done (Ok x) (none, done) = (first_passes rules none, done)
 answers_first rules Done (Err e) some = first_refuses rules e some
 
-settles_one : (rules : List Verdict) → Passes rules ⊎ ((e : Refusal) × Refused rules e)
-settles_one [] = inl passes_end
-settles_one (Some e ∷ rules) = inr (e, refused_here refl)
-settles_one (None ∷ rules) =
-    ⊎_elim (λ p. inl (passes_more refl p)) (λ r. inr (r.0, refused_later refl r.1)) (settles_one rules)
-
-settles_no_other : (rules : List Verdict) (e f : Refusal) → Refused rules e → Refused rules f → e ≡ f
-settles_no_other rules e f r q =
-    ⊎_elim (λ same. let gives : get_or rules r.at None ≡ Some f = rw same q.gives in cc)
-    (⊎_elim (λ less. absurd (fits_counts _ e r.gives (q.before r.at less)))
-    (λ less. absurd (fits_counts _ f q.gives (r.before q.at less))))
-    (cases_order r.at q.at)
+settles_one : (rules : List Verdict) (v : Verdict) → first rules ≡ v → Passes rules ⊎ ((e : Refusal) × Refused rules e)
+settles_one rules None none = inl (first_passes rules none)
+settles_one rules (Some e) some = inr (e, first_refuses rules e some)
 
 pub settles : (rules : List Verdict) → Settles rules
-settles rules =
-    record { one = settles_one rules; not_both = λ e r p. fits_counts _ e r.gives (p.none r.at); no_other = settles_no_other rules }
+settles rules = record {
+  one = settles_one rules (first rules) refl;
+  not_both = λ e r p. let none = p.none r.at in let gives = r.gives in cc;
+  no_other = λ e f r q. let is_e = refused_first rules e r in let is_f = refused_first rules f q in cc;
+}

@@ -1,16 +1,14 @@
 -- The two halves of reading a section joined: its envelope (4 to 9), then its content (10 and 11).
-use Rattle.std.proofs.Common.{◌≡◌, ℕ, ◌-◌, ◌<◌, List, [], ◌∷◌, length, take, drop, Some, None, Result, arith}
-use Rattle.std.proofs.lemmas.Bool.{lt-ltb}
+use Rattle.std.proofs.Common.{◌≡◌, ℕ, ◌-◌, List, [], ◌∷◌, length, take, drop, Some, None, Result, ◌∙◌, arith}
 use Rattle.octets.specs.Octets.{byte}
 use Rattle.refusal.specs.declared.Refusal.{Refusal}
-use Rattle.refusal.specs.declared.Refusal.TheVariants.{SectionSize}
 use Rattle.refusal.specs.Rules.{Verdict, first, Refused, Answers, Obeys}
-use Rattle.refusal.proofs.Order.{refused_here, refused_within, answers_after, answers_first, first_passes, first_refuses}
-use Rattle.section.specs.declared.reading.Header.{Header}
+use Rattle.refusal.proofs.Order.{answers_first, first_append, first_refuses}
 use Rattle.section.specs.declared.reading.Section.{Section}
+use Rattle.section.specs.declared.timing.RealTime.{RealTime}
 use Rattle.section.specs.Kinds.{table_rule}
 use Rattle.section.specs.Rules.{size_rule, length_rule, marker_rule, plain_rule, crc_rule, field_rule, payload_rule, read_rules}
-use Rattle.section.specs.Sections.{payload_of, timing_of, HeaderOf, SectionOf}
+use Rattle.section.specs.Sections.{payload_of, timing_of, SectionOf}
 
 abbrev envelope : List ℕ → List Verdict
 envelope s =
@@ -22,16 +20,14 @@ content R m id address s payload =
     field_rule R m id (byte s 3) (byte s 6) (byte s 7) address (length payload) ∷ payload_rule id payload ∷ []
 
 pub envelope_refused : (R m : ℕ) (s : List ℕ) (e : Refusal) → first (envelope s) ≡ Some e → Refused (read_rules R m s) e
-envelope_refused R m s e some = refused_within (envelope s) _ (first_refuses (envelope s) e some)
+envelope_refused R m s e some =
+    first_refuses _ e (first_append (envelope s) (content R m (byte s 0) (timing_of s).address s (payload_of s)) ∙ rw some)
 
 -- the content's rules, worked out from what the code has at hand, are those of the section
-pub content_answers : (R m : ℕ) (s : List ℕ) (id address : ℕ) (payload : List ℕ) (r : Result Section Refusal) → first (envelope s) ≡ None → id ≡ byte s 0 → address ≡ (timing_of s).address → payload ≡ payload_of s → Obeys (first (content R m id address s payload)) (SectionOf s) r → Answers (read_rules R m s) (SectionOf s) r
-content_answers R m s id address payload r none is_id is_address is_payload obeys =
-    answers_after (envelope s) (content R m (byte s 0) (timing_of s).address s (payload_of s)) (SectionOf s) r (first_passes (envelope s) none)
-    (answers_first _ (SectionOf s) r (rw (is_id, is_address, is_payload) at obeys))
-
-pub header_same : (s : List ℕ) (id : ℕ) (payload : List ℕ) (h : Header) → id ≡ byte s 0 → payload ≡ payload_of s → HeaderOf id (byte s 3) (byte s 4) (byte s 6) (byte s 7) payload h → HeaderOf (byte s 0) (byte s 3) (byte s 4) (byte s 6) (byte s 7) (payload_of s) h
-header_same s id payload h is_id is_payload of = rw (is_id, is_payload) at of
+pub content_answers : (R m : ℕ) (s : List ℕ) (id : ℕ) (timing : RealTime) (payload : List ℕ) (r : Result Section Refusal) → first (envelope s) ≡ None → id ≡ byte s 0 → timing ≡ timing_of s → payload ≡ payload_of s → Obeys (first (content R m id timing.address s payload)) (SectionOf s) r → Answers (read_rules R m s) (SectionOf s) r
+content_answers R m s id timing payload r none is_id is_timing is_payload obeys =
+    answers_first _ (SectionOf s) r
+    (rw (first_append (envelope s) (content R m (byte s 0) (timing_of s).address s (payload_of s)), none) (rw (is_id, is_timing, is_payload) at obeys))
 
 -- the part that the code cuts out is the payload
 pub part : (s : List ℕ) → take (length s - 4 - 12) (drop 12 s) ≡ payload_of s

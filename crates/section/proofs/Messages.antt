@@ -1,5 +1,5 @@
 -- The header and the payload, written from the fields that were read, are alike to those of the section.
-use Rattle.std.proofs.Common.{◌≡◌, ℕ, ◌+◌, ◌-◌, ◌/◌, ◌%◌, ◌<◌, T, ltb, List, [], ◌∷◌, ◌++◌, length, drop, sym, refl, ap, ◌∙◌, subst, arith, lit<}
+use Rattle.std.proofs.Common.{◌≡◌, ℕ, ◌+◌, ◌-◌, ◌/◌, ◌%◌, List, [], ◌∷◌, ◌++◌, length, drop, sym, refl, ap, ◌∙◌, subst, arith}
 use Rattle.std.proofs.lemmas.List.{length-take, length-drop, get_or-take, get_or-drop}
 use Rattle.octets.specs.Octets.{Bytes, byte, word32}
 use Rattle.crc32.specs.Crc.{big_endian}
@@ -15,9 +15,6 @@ use Rattle.section.proofs.Alike.{Alikes, in_front, alike_same, alike_1, alike_4_
 use Rattle.section.proofs.Passed.{Passed}
 
 module _ {R m : ℕ} {s : List ℕ} (bytes : Bytes s) (p : Passed R m s) where
-  pub byte_below : (k : ℕ) → T (ltb k 16) → byte s k < 256
-  byte_below k t = let h : k < 16 = lit< t in bytes k (omega arith)
-
   pub payload_length : 16 + length (payload_of s) ≡ length s
   payload_length = simp (length-take, length-drop) (omega arith)
 
@@ -31,10 +28,10 @@ module _ {R m : ℕ} {s : List ℕ} (bytes : Bytes s) (p : Passed R m s) where
   -- from byte 8 on
   timing_alikes : Alikes (byte s 0) 8 (big_endian (real_time_word (timing_of s)) ++ payload_of s) s
   timing_alikes =
-      let b_8 = byte_below 8 tt in
-      let b_9 = byte_below 9 tt in
-      let b_10 = byte_below 10 tt in
-      let b_11 = byte_below 11 tt in
+      let b_8 = bytes 8 (omega arith) in
+      let b_9 = bytes 9 (omega arith) in
+      let b_10 = bytes 10 (omega arith) in
+      let b_11 = bytes 11 (omega arith) in
       let again : big_endian (real_time_word (timing_of s)) ≡ byte s 8 ∷ byte s 9 ∷ byte s 10 ∷ byte s 11 ∷ []
       = ap big_endian (side_by_side (word32 s 8)) ∙ word_bytes (byte s 8) (byte s 9) (byte s 10) (byte s 11) b_8 b_9 b_10 b_11 in
       subst (λ ws. Alikes (byte s 0) 8 (ws ++ payload_of s) s) (sym again)
@@ -43,17 +40,17 @@ module _ {R m : ℕ} {s : List ℕ} (bytes : Bytes s) (p : Passed R m s) where
   -- from byte 3 on, in front of what is alike from byte 8 on
   kind_alikes : (h : Header) → HeaderIn s h → (ws vs : List ℕ) → Alikes (byte s 0) 8 (ws ++ vs) s → Alikes (byte s 0) 3 ((bytes_of_kind h ++ ws) ++ vs) s
   kind_alikes (Datagram h) (is, mac_6, mac_5, _) ws vs rest =
-      in_front (alike_same mac_6 (byte_below 3 tt))
-      (in_front (alike_same mac_5 (byte_below 4 tt))
-      (in_front (rw is (alike_5_datagram (byte s 5) (byte_below 5 tt) p.marked_5 (p.plain is)))
-      (in_front (alike_same (sym (p.zero_6 is)) (byte_below 6 tt))
-      (in_front (alike_same (sym (p.zero_7 is)) (byte_below 7 tt)) rest))))
+      in_front (alike_same mac_6 (bytes 3 (omega arith)))
+      (in_front (alike_same mac_5 (bytes 4 (omega arith)))
+      (in_front (rw is (alike_5_datagram (byte s 5) (bytes 5 (omega arith)) p.marked_5 (p.plain is)))
+      (in_front (alike_same (sym (p.zero_6 is)) (bytes 6 (omega arith)))
+      (in_front (alike_same (sym (p.zero_7 is)) (bytes 7 (omega arith))) rest))))
   kind_alikes (Check h) (is, padding, number, last) ws vs rest =
-      in_front (alike_same padding (byte_below 3 tt))
+      in_front (alike_same padding (bytes 3 (omega arith)))
       (in_front (rw is (alike_4_check (byte s 4)))
-      (in_front (rw is (alike_5_check (byte s 5) (byte_below 5 tt) p.marked_5))
-      (in_front (alike_same number (byte_below 6 tt))
-      (in_front (alike_same last (byte_below 7 tt)) rest))))
+      (in_front (rw is (alike_5_check (byte s 5) (bytes 5 (omega arith)) p.marked_5))
+      (in_front (alike_same number (bytes 6 (omega arith)))
+      (in_front (alike_same last (bytes 7 (omega arith))) rest))))
 
   kind_read : (h : Header) → HeaderIn s h → table_id_of (kind_of h) ≡ byte s 0
   kind_read (Datagram h) of = sym of.0
@@ -61,9 +58,9 @@ module _ {R m : ℕ} {s : List ℕ} (bytes : Bytes s) (p : Passed R m s) where
 
   pub message_alikes : (h : Header) → HeaderIn s h → Alikes (byte s 0) 0 (header_bytes h (timing_of s) (length (payload_of s)) ++ payload_of s) s
   message_alikes h of =
-      let low = byte_below 2 tt in
+      let low = bytes 2 (omega arith) in
       let high : (16 + length (payload_of s) - 3) / 256 ≡ byte s 1 % 16 = rw payload_length (omega arith) in
-      in_front (alike_same (kind_read h of) (byte_below 0 tt))
-      (in_front (rw high (alike_1 (byte s 0) (byte s 1) (byte_below 1 tt) p.marked_1))
+      in_front (alike_same (kind_read h of) (bytes 0 (omega arith)))
+      (in_front (rw high (alike_1 (byte s 0) (byte s 1) (bytes 1 (omega arith)) p.marked_1))
       (in_front (alike_same (rw payload_length (omega arith)) low)
       (kind_alikes h of (big_endian (real_time_word (timing_of s))) (payload_of s) timing_alikes)))

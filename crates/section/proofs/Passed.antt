@@ -1,20 +1,14 @@
 -- What is known of a section that no rule of reading turns away.
 use Rattle.std.proofs.Common.{◌≡◌, ℕ, ◌-◌, ◌≤◌, true, false, List, length, None}
-use Rattle.std.proofs.lemmas.Bool.{not-false, or_parts, eqb-true, ltb-false}
+use Rattle.std.proofs.lemmas.Bool.{or_parts, eqb-true, ltb-false}
 use Rattle.octets.specs.Octets.{byte, section_length}
 use Rattle.crc32.specs.Crc.{crc}
-use Rattle.refusal.specs.Rules.{Verdict, Passes}
-use Rattle.refusal.proofs.Order.{when_none, or_else_none}
+use Rattle.refusal.specs.Rules.{Passes}
+use Rattle.refusal.proofs.Order.{when_none, when_not_none, or_else_none}
 use Rattle.section.specs.declared.kinds.Kind.TheVariants.{Datagram, Check}
 use Rattle.section.specs.Kinds.{table_id_of}
-use Rattle.section.specs.Rules.{by_kind, markers_1, markers_5, scrambled_or_wrapped, column_rule, read_rules}
+use Rattle.section.specs.Rules.{markers_1, markers_5, scrambled_or_wrapped, column_rule, read_rules}
 use Rattle.section.specs.Sections.{payload_of, timing_of}
-
-of_datagram : (id : ℕ) (v w : Verdict) → by_kind id v w ≡ None → id ≡ table_id_of Datagram → v ≡ None
-of_datagram id v w none is = rw is at none
-
-of_check : (id : ℕ) (v w : Verdict) → by_kind id v w ≡ None → id ≡ table_id_of Check → w ≡ None
-of_check id v w none is = rw is at none
 
 -- what each rule leaves, in their order; that the table_id is of a kind and the payload a datagram, the header that was read tells
 pub record Passed (R m : ℕ) (s : List ℕ) : Type 0 where
@@ -33,16 +27,16 @@ pub passed : (R m : ℕ) (s : List ℕ) → Passes (read_rules R m s) → Passed
 passed R m s passes =
     let size = or_parts _ _ (when_none _ _ (passes.none 0)) in
     let markers = or_else_none _ _ (passes.none 3) in
-    let zeros = λ (is : byte s 0 ≡ table_id_of Datagram). or_else_none _ _ (of_datagram (byte s 0) _ _ (passes.none 6) is) in
+    let zeros = λ (is : byte s 0 ≡ table_id_of Datagram). or_else_none _ _ (rw is at (passes.none 6)) in
     record {
       least = ltb-false (length s) 16 size.0;
       most = ltb-false 4096 (length s) size.1;
-      told = eqb-true _ _ (not-false _ (when_none _ _ (passes.none 2)));
-      marked_1 = not-false _ (when_none _ _ markers.0);
-      marked_5 = not-false _ (when_none _ _ markers.1);
-      plain = λ is. when_none _ _ (of_datagram (byte s 0) _ _ (passes.none 4) is);
-      crc_0 = eqb-true _ _ (not-false _ (when_none _ _ (passes.none 5)));
-      zero_6 = λ is. eqb-true _ _ (not-false _ (when_none _ _ (zeros is).0));
-      zero_7 = λ is. eqb-true _ _ (not-false _ (when_none _ _ (zeros is).1));
-      column = of_check (byte s 0) _ _ (passes.none 6);
+      told = eqb-true _ _ (when_not_none _ _ (passes.none 2));
+      marked_1 = when_not_none _ _ markers.0;
+      marked_5 = when_not_none _ _ markers.1;
+      plain = λ is. when_none _ _ (rw is at (passes.none 4));
+      crc_0 = eqb-true _ _ (when_not_none _ _ (passes.none 5));
+      zero_6 = λ is. eqb-true _ _ (when_not_none _ _ (zeros is).0);
+      zero_7 = λ is. eqb-true _ _ (when_not_none _ _ (zeros is).1);
+      column = λ is. rw is at (passes.none 6);
     }

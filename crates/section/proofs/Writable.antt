@@ -1,6 +1,7 @@
 -- Fields that were read can be written: no rule of writing turns them away.
-use Rattle.std.proofs.Common.{◌≡◌, ℕ, ◌^◌, Bool, true, false, ◌&&◌, ltb, leb, List, length, None, refl, ◌∙◌, arith}
+use Rattle.std.proofs.Common.{◌≡◌, ℕ, ◌^◌, true, ltb, leb, List, length, None, refl, ◌∙◌, arith}
 use Rattle.std.proofs.lemmas.Bool.{le-leb, lt-leb, le-ltb, lt-ltb}
+use Rattle.std.proofs.Math.Bool.{and-true}
 use Rattle.octets.specs.Octets.{Bytes, byte}
 use Rattle.refusal.specs.Rules.{Passes}
 use Rattle.refusal.proofs.Order.{first_passes}
@@ -10,11 +11,7 @@ use Rattle.section.specs.Writing.{write_field_rule, write_payload_rule, unwritab
 use Rattle.section.specs.Sections.{payload_of, timing_of, HeaderIn}
 use Rattle.section.proofs.Columns.{column_split}
 use Rattle.section.proofs.Passed.{Passed}
-use Rattle.section.proofs.Messages.{byte_below, payload_length}
-
-and_true : (a b : Bool) → b ≡ true → (a && b) ≡ a
-and_true true b on = on
-and_true false b on = refl
+use Rattle.section.proofs.Messages.{payload_length}
 
 module _ {R m : ℕ} {s : List ℕ} (bytes : Bytes s) (p : Passed R m s) where
   field_passes : (h : Header) → HeaderIn s h → write_field_rule R m h (timing_of s).address (length (payload_of s)) ≡ None
@@ -22,7 +19,7 @@ module _ {R m : ℕ} {s : List ℕ} (bytes : Bytes s) (p : Passed R m s) where
   field_passes (Check h) (is, padding, number, last) =
       let address : ltb (timing_of s).address (2 ^ 18) ≡ true = lt-ltb _ _ (omega arith) in
       let size : leb (length (payload_of s)) 4080 ≡ true = le-leb _ _ (omega (arith, payload_length bytes p)) in
-      rw (and_true _ _ address, and_true _ _ size, padding, number, last)
+      simp (address, size, and-true, padding, number, last)
       (column_split R m (byte s 3) (byte s 6) (byte s 7) (timing_of s).address (length (payload_of s)) ∙ p.column is)
 
   payload_passes : (h : Header) → HeaderIn s h → write_payload_rule h (payload_of s) ≡ None
@@ -30,12 +27,7 @@ module _ {R m : ℕ} {s : List ℕ} (bytes : Bytes s) (p : Passed R m s) where
   payload_passes (Check h) of = refl
 
   room_passes : unwritable_rule 4096 (timing_of s).delta_t ≡ None
-  room_passes =
-      let b_8 = byte_below bytes p 8 tt in
-      let b_9 = byte_below bytes p 9 tt in
-      let b_10 = byte_below bytes p 10 tt in
-      let b_11 = byte_below bytes p 11 tt in
-      rw (le-ltb 4095 (timing_of s).delta_t (omega arith))
+  room_passes = rw (le-ltb 4095 (timing_of s).delta_t (omega arith))
 
   pub writable : (h : Header) → HeaderIn s h → Passes (write_rules R m h (timing_of s) (payload_of s) 4096)
   writable h of = first_passes _ (rw (field_passes h of, payload_passes h of, room_passes))

@@ -1,12 +1,13 @@
 //! Sections on the air, written: every byte from the fields, into a lent buffer.
 #![tactic(auto)]
 
-ghost use Rattle.std.specs.Prelude.{◌≡◌, ◌+◌, ◌*◌, ◌^◌, ◌≤◌, not, ◌&&◌, [], ◌∷◌, ◌++◌, length, take, drop, IfOk, OnErr, ◌==◌, nat_le, nat_lt};
+ghost use Rattle.std.specs.Prelude.{◌≡◌, ◌+◌, ◌*◌, ◌^◌, ◌≤◌, not, ◌&&◌, [], ◌∷◌, ◌++◌, length, take, drop, IfOk, OnOk, OnErr, ◌==◌, nat_le, nat_lt};
 ghost use Rattle.crc32.specs.Crc.{crc, big_endian};
 ghost use Rattle.refusal.specs.declared.Refusal.TheVariants.{NotOneDatagram, Unwritable};
 ghost use Rattle.refusal.specs.Rules.{Answers, Obeys, first, when};
 ghost use Rattle.section.specs.Datagrams.{whole_as};
 ghost use Rattle.section.specs.Laws.{ReadsAs};
+ghost use Rattle.section.specs.RealTimes.{real_time_word};
 ghost use Rattle.section.specs.Layout.{bytes_of_length, bytes_of_kind, with_crc, written_of};
 ghost use Rattle.section.specs.Writing.{write_field_rule, write_payload_rule, write_rules};
 ghost use Rattle.section_writer.specs.Buffers.{Wrote, before_payload};
@@ -72,6 +73,21 @@ fn check_room(room: usize) -> Result<(), Refusal>
     ensures { Obeys (when (not (room == 4096)) Unwritable) (λ _. Unit {0}) result }
 {
     refuse_when(room != BUFFER, Refusal::Unwritable)
+}
+
+// The four bytes of the real-time parameters, if the section can be written for a frame of this size and into a buffer of
+// so many bytes.
+fn check(section: Section<'_>, frame: FrameSize, room: usize) -> Result<[u8; 4], Refusal>
+    ensures answer { Answers
+        (write_rules frame.rows frame.check_columns section.entry.header section.entry.timing section.entry.payload.now room)
+        (λ timing. timing ≡ big_endian (real_time_word section.entry.timing)) result }
+    ensures room { OnOk result (room ≡ 4096) }
+    ensures payload { OnOk result (length section.entry.payload.now ≤ 4080) }
+{
+    check_fields(section, frame)?;
+    check_room(room)?;
+    // Only delta_t can still be refused here: the address was tested with the other fields.
+    section.timing.to_be_bytes()
 }
 
 // Bytes 1 and 2 of a section with a payload of so many bytes: bits 7, 5 and 4, and section_length, which counts all but
@@ -170,9 +186,6 @@ pub fn write(section: Section<'_>, frame: FrameSize, buffer: &mut [u8]) -> Resul
     ensures stays { OnErr result (buffer.new ≡ buffer.old) }
     ensures back { IfOk result (λ n. ReadsAs frame.rows frame.check_columns (take n buffer.new) section.entry) }
 {
-    check_fields(section, frame)?;
-    check_room(buffer.len())?;
-    // Only delta_t can still be refused here: the address was tested with the other fields.
-    let timing = section.timing.to_be_bytes()?;
+    let timing = check(section, frame, buffer.len())?;
     Ok(lay(buffer, section, timing))
 }

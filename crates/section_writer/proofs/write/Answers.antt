@@ -1,54 +1,28 @@
--- Three ways out by a refusal, and one with the section written.
+-- What was written begins the buffer, and reading it gives the same fields.
 use Rattle.std.proofs.Common.{◌≡◌, ℕ, List, ◌++◌, length, take, drop, sym, refl, ◌∙◌, subst}
 use Rattle.std.proofs.lemmas.List.{take_at}
-use Rattle.refusal.proofs.Order.{exits}
 use Rattle.section.specs.Layout.{written, written_of}
 use Rattle.section.specs.Laws.{ReadsAs}
 use Rattle.section.proofs.LaidOut.{written_length}
 use Rattle.section_writer.specs.Buffers.{Wrote}
 use Rattle.section_writer.proofs.Back.{reads_back}
-use Rattle.section_writer.proofs.Order.{content_refused, buffer_refused, timing_refused, all_pass}
 use Rattle.section_writer.proofs.write.Goals as goal
 
 -- the bytes that were written are the first of the buffer
 wrote_first : (bytes before after : List ℕ) (n : ℕ) → Wrote bytes before after n → take n after ≡ bytes
 wrote_first bytes before after n wrote = rw (wrote.buffer, wrote.len) (take_at bytes (drop (length bytes) before) (length bytes) refl)
 
-pub returns-in_err-check_fields-clause-answer : goal.returns-in_err-check_fields-clause-answer
-returns-in_err-check_fields-clause-answer c =
-    let x = c.args.section in
-    let r = c.from_residual in
-    exits _ _ r.result _ r.ensures.1
-    (content_refused c.args.frame.rows c.args.frame.check_columns x.header x.timing x.payload.now (length c.args.buffer.now) _ c.in_err-check_fields.ensures)
-
-pub returns-in_err-check_room-clause-answer : goal.returns-in_err-check_room-clause-answer
-returns-in_err-check_room-clause-answer c =
-    let x = c.args.section in
-    let r = c.from_residual-in_err-check_room in
-    exits _ _ r.result _ r.ensures.1
-    (buffer_refused c.args.frame.rows c.args.frame.check_columns x.header x.timing x.payload.now (length c.args.buffer.now) _ c.in_ok-check_fields.ensures.0
-    c.in_err-check_room.ensures)
-
-pub returns-in_err-timing-clause-answer : goal.returns-in_err-timing-clause-answer
-returns-in_err-timing-clause-answer c =
-    let x = c.args.section in
-    let r = c.from_residual-in_err-timing in
-    exits _ _ r.result _ r.ensures.1
-    (timing_refused c.args.frame.rows c.args.frame.check_columns x.header x.timing x.payload.now (length c.args.buffer.now) _ c.in_ok-check_fields.ensures.0
-    c.in_ok-check_room.ensures.0 c.in_err-timing.ensures.answer)
-
 pub returns : goal.returns
 unfolding written
 returns c =
     let x = c.args.section in
-    let timing = c.in_ok-timing.ensures.answer in
-    let passes = all_pass c.args.frame.rows c.args.frame.check_columns x.header x.timing x.payload.now (length c.args.buffer.now) c.in_ok-check_fields.ensures.0
-    c.in_ok-check_room.ensures.0 timing.0 in
-    let after : c.lay.new.buffer ≡ written_of x ++ drop c.lay.result c.args.buffer.now = rw timing.1 at c.lay.ensures.after in
+    let checked = c.in_ok-timing.ensures.answer in
+    let after : c.lay.new.buffer ≡ written_of x ++ drop c.lay.result c.args.buffer.now = rw checked.1 at c.lay.ensures.after in
     let size = c.lay.ensures.len ∙ sym (written_length x.header x.timing x.payload.now) in
     let wrote : Wrote (written_of x) c.args.buffer.now c.lay.new.buffer c.lay.result = record { len = size; buffer = rw size at after } in
     record {
-      answer = (passes, wrote);
+      answer = (checked.0, wrote);
       stays = tt;
-      back = subst (λ s. ReadsAs c.args.frame.rows c.args.frame.check_columns s x) (sym (wrote_first (written_of x) _ _ _ wrote)) (reads_back c.args.frame.rows c.args.frame.check_columns x _ passes);
+      back = subst (λ s. ReadsAs c.args.frame.rows c.args.frame.check_columns s x) (sym (wrote_first (written_of x) _ _ _ wrote))
+          (reads_back c.args.frame.rows c.args.frame.check_columns x _ checked.0);
     }
