@@ -1,3 +1,4 @@
 pub mod Allowed
 pub mod Back
+pub mod Laid
 pub mod Order

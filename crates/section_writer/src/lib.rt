@@ -161,13 +161,12 @@ fn fill_part(part: &mut [u8], header: [u8; 12], payload: &[u8])
 }
 
 // Lays a section to the beginning of a buffer, and answers its length.
+#[tactic(auto, using(crate::proofs::Laid::laid))]
 fn lay(buffer: &mut [u8], section: Section<'_>, timing: [u8; 4]) -> usize
+    requires timing { timing ≡ big_endian (real_time_word section.timing) }
     requires payload { length section.payload.now ≤ 4080 }
     requires buffer { length buffer.old ≡ 4096 }
-    ensures len { result ≡ 16 + length section.entry.payload.now }
-    ensures after { buffer.new
-        ≡ with_crc (before_payload section.entry.header (bytes_of_length (16 + length section.entry.payload.now)) timing ++ section.entry.payload.now)
-        ++ drop result buffer.old }
+    ensures { Wrote (written_of section.entry) buffer.old buffer.new result }
 {
     let size = section.payload.len();
     let n = 16 + size;
