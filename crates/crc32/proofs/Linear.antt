@@ -1,21 +1,17 @@
 -- The register's step is linear: what is added to the register, with its top bits added to the message, is added to the result.
-use Rattle.std.proofs.Common.{◌≡◌, ℕ, zero, suc, ◌+◌, ◌*◌, ◌/◌, ◌%◌, ◌^◌, ◌<◌, Bool, cond, eqb, List, map, get_or, sym, refl, ap, ◌∙◌, ap₂, add-zero, mod-lt, mod-eq_of_lt, mul_assoc, pow-suc, zero-add, mul-one, arith, lit<, pow_pos, pow-add, shr-shr}
+use Rattle.std.proofs.Common.{◌≡◌, ℕ, zero, suc, ◌+◌, ◌*◌, ◌/◌, ◌%◌, ◌^◌, ◌<◌, Bool, cond, eqb, List, map, get_or, sym, refl, ap, ◌∙◌, ap₂, add-zero, mod-eq_of_lt, mul_assoc, pow-suc, zero-add, mul-one, arith, lit<, pow_pos, pow-add, shr-shr}
 use mathlib.Core.Bool.{xor}
 use native.Mathlib.Nat.{mul-div-mul_right}
-use lib.Bits.{bit_xor, xor_assoc, xor_comm, xor_self, xor_zero_r, xor_block, xor_shr, xor_mod, xor_lt, xor_add_and, and_lt}
+use lib.Bits.{bit_xor, xor_assoc, xor_comm, xor_self, xor_zero_r, xor_block, xor_mod, xor_lt}
+use Rattle.std.proofs.lemmas.Nat.Bits.{bit_at_xor, bit_at-lt}
 use Rattle.std.specs.List.{range_with_len}
 use Rattle.std.proofs.lemmas.List.FromFn.{get_or-map-range_with_len}
 use Rattle.octets.specs.Octets.{bit}
 use Rattle.crc32.specs.Crc.{crc_bit, crc_bits, crc_byte}
 
-digit_xor : (x y : ℕ) → x < 2 → y < 2 → eqb (bit_xor x y) 1 ≡ xor (eqb x 1) (eqb y 1)
-unfolding xor
-digit_xor x y h k = grind (arith, xor_add_and x y, and_lt 1 x y h k)
-
 bit-bit_xor : (a b k : ℕ) → bit (bit_xor a b) k ≡ xor (bit a k) (bit b k)
-bit-bit_xor a b k =
-    ap (λ (x : ℕ). eqb (x % 2) 1) (xor_shr a b k) ∙ ap (λ (x : ℕ). eqb x 1) (xor_mod (a / 2 ^ k) (b / 2 ^ k) 1)
-    ∙ digit_xor (a / 2 ^ k % 2) (b / 2 ^ k % 2) (mod-lt (a / 2 ^ k) (lit< tt)) (mod-lt (b / 2 ^ k) (lit< tt))
+unfolding xor
+bit-bit_xor a b k = grind (arith, bit_at_xor a b k, bit_at-lt a k, bit_at-lt b k)
 
 double_xor : (a b : ℕ) → bit_xor a b * 2 % 2 ^ 32 ≡ bit_xor (a * 2 % 2 ^ 32) (b * 2 % 2 ^ 32)
 double_xor a b =

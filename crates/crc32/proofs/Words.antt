@@ -1,5 +1,6 @@
 -- Four bytes and the big-endian number that they are.
-use Rattle.std.proofs.Common.{◌≡◌, ℕ, ◌/◌, ◌%◌, ◌^◌, ◌<◌, List, [], ◌∷◌, length, arith, lit<}
+use Rattle.std.proofs.Common.{◌≡◌, ℕ, ◌/◌, ◌%◌, ◌^◌, ◌<◌, List, [], ◌∷◌, length, get_or, refl, sym, ◌∙◌, arith}
+use Rattle.std.proofs.lemmas.Slice.Eq.{text_from_reads}
 use Rattle.octets.specs.Octets.{Bytes, word32}
 use Rattle.crc32.specs.Crc.{big_endian}
 
@@ -12,13 +13,13 @@ word_bytes a b c d ha hb hc hd =
     let is_d : w % 256 ≡ d = omega arith in
     cc
 
+-- a list of four, read one by one
+pub four : (b : List ℕ) → length b ≡ 4 → b ≡ get_or b 0 0 ∷ get_or b 1 0 ∷ get_or b 2 0 ∷ get_or b 3 0 ∷ []
+four b l = text_from_reads b _ l (refl, (refl, (refl, (refl, tt))))
+
 pub bytes_again : (b : List ℕ) → length b ≡ 4 → Bytes b → big_endian (word32 b 0) ≡ b
-bytes_again [] l p = absurd (omega arith)
-bytes_again (_ ∷ []) l p = absurd (omega arith)
-bytes_again (_ ∷ _ ∷ []) l p = absurd (omega arith)
-bytes_again (_ ∷ _ ∷ _ ∷ []) l p = absurd (omega arith)
-bytes_again (a ∷ b ∷ c ∷ d ∷ []) l p = word_bytes a b c d (p 0 (lit< tt)) (p 1 (lit< tt)) (p 2 (lit< tt)) (p 3 (lit< tt))
-bytes_again (_ ∷ _ ∷ _ ∷ _ ∷ _ ∷ _) l p = absurd (omega arith)
+bytes_again b l p =
+    word_bytes _ _ _ _ (p 0 (omega arith)) (p 1 (omega arith)) (p 2 (omega arith)) (p 3 (omega arith)) ∙ sym (four b l)
 
 pub word_again : (n : ℕ) → word32 (big_endian n) 0 ≡ n
 word_again n = omega arith
