@@ -22,20 +22,16 @@ apart (suc t) h e = absurd (rw e at (at_each (λ k. not (eqb (crc_byte 0 (suc k)
 highest : (r b : ℕ) → r < 2 ^ 32 → b ≡ r / 2 ^ 24 → crc_byte r b ≡ r % 2 ^ 24 * 2 ^ 8
 unfolding xor crc_bit crc_bits crc_byte
 highest r b h e =
-    by_highest r b h
-    ∙ ap (λ (t : ℕ). bit_xor (crc_byte 0 t) (r * 2 ^ 8 % 2 ^ 32)) (ap (λ (x : ℕ). bit_xor x (r / 2 ^ 24)) e ∙ xor_self (r / 2 ^ 24))
-    ∙ omega arith
+    rw (by_highest r b h, e, xor_self (r / 2 ^ 24)) (omega arith)
 
 -- and no other byte leaves a multiple of 256
 no_other : (r b k : ℕ) → r < 2 ^ 32 → b < 256 → crc_byte r b ≡ k * 2 ^ 8 → r ≡ b * 2 ^ 24 + k
 no_other r b k h l e =
     let t : ℕ = bit_xor b (r / 2 ^ 24) in
     let low : r * 2 ^ 8 % 2 ^ 32 % 2 ^ 8 ≡ 0 = omega arith in
-    let same : crc_byte r b % 2 ^ 8 ≡ crc_byte 0 t % 2 ^ 8
-    = ap (λ (x : ℕ). x % 2 ^ 8) (by_highest r b h) ∙ xor_mod (crc_byte 0 t) (r * 2 ^ 8 % 2 ^ 32) 8
-    ∙ ap (bit_xor (crc_byte 0 t % 2 ^ 8)) low ∙ xor_zero_r (crc_byte 0 t % 2 ^ 8) in
-    let o : b ≡ r / 2 ^ 24
-    = sym (undo b (r / 2 ^ 24)) ∙ ap (λ (x : ℕ). bit_xor x (r / 2 ^ 24)) (apart t (place_lt b r l h) (omega arith)) in
+    let same : crc_byte r b % 2 ^ 8 ≡ crc_byte 0 t % 2 ^ 8 = rw (by_highest r b h, xor_mod (crc_byte 0 t) (r * 2 ^ 8 % 2 ^ 32) 8, low) (xor_zero_r (crc_byte 0 t % 2 ^ 8)) in
+    let z = apart t (place_lt b r l h) (omega arith) in
+    let o : b ≡ r / 2 ^ 24 = rw z at (sym (undo b (r / 2 ^ 24))) in
     omega (arith, highest r b h o)
 
 closes : (c : ℕ) → c < 2 ^ 32 → crc_from c (big_endian c) ≡ 0
