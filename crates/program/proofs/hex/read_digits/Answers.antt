@@ -1,5 +1,5 @@
 -- Each turn reads a byte off the front of what is left; where that fails, and where a digit is left, the text is not the digits of bytes.
-use Rattle.std.proofs.Common.{◌≡◌, ℕ, ◌-◌, ◌/◌, ◌%◌, ◌<◌, ◌≤◌, List, [], ◌∷◌, ◌++◌, length, get_or, take, drop, vec_items, sym, refl, ap, append_assoc, arith, take_all, rules}
+use Rattle.std.proofs.Common.{◌≡◌, ℕ, ◌-◌, ◌/◌, ◌%◌, ◌<◌, ◌≤◌, List, [], ◌∷◌, ◌++◌, length, get_or, take, drop, vec_items, refl, ap, append_assoc, arith, take_all, rules}
 use Rattle.std.proofs.lemmas.List.Elements.{All-head, All-tail}
 use Rattle.program.specs.Hex.{hex_digit, Digits, in_hex, NoBytes}
 use Rattle.program.proofs.hex.read_digits.Goals as goal
@@ -8,7 +8,7 @@ use Rattle.program.proofs.hex.read_digits.Goals as goal
 in_hex_more : (bytes : List ℕ) (b : ℕ) → in_hex (bytes ++ b ∷ []) ≡ in_hex bytes ++ (hex_digit (b / 16) ∷ hex_digit (b % 16) ∷ [])
 unfolding in_hex
 in_hex_more [] b = refl
-in_hex_more (x ∷ bytes) b = ap (λ (r : List ℕ). hex_digit (x / 16) ∷ hex_digit (x % 16) ∷ r) (in_hex_more bytes b)
+in_hex_more (x ∷ bytes) b = rw (in_hex_more bytes b)
 
 -- a byte is read off the front of what is left
 step : (bytes left text pushed : List ℕ) (b : ℕ) → 2 ≤ length left → in_hex bytes ++ left ≡ text → Digits b (get_or left 0 0) (get_or left 1 0)
@@ -16,10 +16,8 @@ step : (bytes left text pushed : List ℕ) (b : ℕ) → 2 ≤ length left → i
 step bytes [] text pushed b h inv d e = absurd (omega arith)
 step bytes (x ∷ []) text pushed b h inv d e = absurd (omega arith)
 step bytes (x ∷ y ∷ rest) text pushed b h inv d e =
-    let more = in_hex_more bytes b in
     let same : take (length (x ∷ y ∷ rest) - 2) rest ≡ rest = take_all _ rest (omega arith) in
-    let joined = append_assoc (in_hex bytes) (hex_digit (b / 16) ∷ hex_digit (b % 16) ∷ []) rest in
-    cc
+    rw (e, in_hex_more bytes b, same, append_assoc) (cc)
 
 -- where what is left is not the digits of bytes, the text is not
 rest_decides : (read left text : List ℕ) → in_hex read ++ left ≡ text → NoBytes (λ bytes. left ≡ in_hex bytes) → NoBytes (λ bytes. text ≡ in_hex bytes)
@@ -31,14 +29,14 @@ rest_decides (x ∷ read) left text inv none (b ∷ bytes) small e = rest_decide
 -- two signs that are not the digits of a byte
 no_byte : (left : List ℕ) → 2 ≤ length left → ((b : ℕ) → b < 256 → Digits b (get_or left 0 0) (get_or left 1 0) → ⊥) → NoBytes (λ bytes. left ≡ in_hex bytes)
 unfolding in_hex
-no_byte left h none [] small e = let z = ap length e in omega arith
-no_byte left h none (b ∷ bytes) small e = none b (All-head (λ b. b < 256) b bytes small) (ap (λ (l : List ℕ). get_or l 0 0) (sym e), ap (λ (l : List ℕ). get_or l 1 0) (sym e))
+no_byte left h none [] small e = omega (arith, ap length e)
+no_byte left h none (b ∷ bytes) small e = none b (All-head (λ b. b < 256) b bytes small) (rw e (refl, refl))
 
 -- a lone digit
 lone : (left : List ℕ) → length left < 2 → 0 < length left → NoBytes (λ bytes. left ≡ in_hex bytes)
 unfolding in_hex
-lone left h some [] small e = let z = ap length e in omega arith
-lone left h some (b ∷ bytes) small e = let z = ap length e in omega arith
+lone left h some [] small e = omega (arith, ap length e)
+lone left h some (b ∷ bytes) small e = omega (arith, ap length e)
 
 pub loop-left-init : goal.loop-left-init
 unfolding in_hex
