@@ -1,25 +1,20 @@
 -- The register's step is linear: what is added to the register, with its top bits added to the message, is added to the result.
-use Rattle.std.proofs.Common.{◌≡◌, ℕ, zero, suc, ◌+◌, ◌*◌, ◌/◌, ◌%◌, ◌^◌, ◌<◌, Bool, cond, eqb, List, map, get_or, sym, refl, ap, ◌∙◌, ap₂, add-zero, mod-lt, mod-eq_of_lt, mul_assoc, pow-suc, zero-add, mul-one, arith, lit<, pow_pos, pow-add, shr-shr}
+use Rattle.std.proofs.Common.{◌≡◌, ℕ, zero, suc, ◌+◌, ◌*◌, ◌/◌, ◌%◌, ◌^◌, ◌<◌, Bool, List, map, get_or, sym, refl, mod-eq_of_lt, mul_assoc, pow-suc, zero-add, mul-one, arith, pow_pos, pow-add, shr-shr}
 use mathlib.Core.Bool.{xor}
 use native.Mathlib.Nat.{mul-div-mul_right}
-use lib.Bits.{bit_xor, xor_assoc, xor_comm, xor_self, xor_zero_r, xor_block, xor_shr, xor_mod, xor_lt, xor_add_and, and_lt}
+use lib.Bits.{bit_xor, xor_assoc, xor_comm, xor_self, xor_zero_r, xor_block, xor_mod, xor_lt}
+use Rattle.std.proofs.lemmas.Nat.Bits.{bit_at_xor, bit_at-lt}
 use Rattle.std.specs.List.{range_with_len}
 use Rattle.std.proofs.lemmas.List.FromFn.{get_or-map-range_with_len}
 use Rattle.octets.specs.Octets.{bit}
 use Rattle.crc32.specs.Crc.{crc_bit, crc_bits, crc_byte}
 
-digit_xor : (x y : ℕ) → x < 2 → y < 2 → eqb (bit_xor x y) 1 ≡ xor (eqb x 1) (eqb y 1)
-unfolding xor
-digit_xor x y h k = grind (arith, xor_add_and x y, and_lt 1 x y h k)
-
 bit-bit_xor : (a b k : ℕ) → bit (bit_xor a b) k ≡ xor (bit a k) (bit b k)
-bit-bit_xor a b k =
-    ap (λ (x : ℕ). eqb (x % 2) 1) (xor_shr a b k) ∙ ap (λ (x : ℕ). eqb x 1) (xor_mod (a / 2 ^ k) (b / 2 ^ k) 1)
-    ∙ digit_xor (a / 2 ^ k % 2) (b / 2 ^ k % 2) (mod-lt (a / 2 ^ k) (lit< tt)) (mod-lt (b / 2 ^ k) (lit< tt))
+unfolding xor
+bit-bit_xor a b k = grind (arith, bit_at_xor a b k, bit_at-lt a k, bit_at-lt b k)
 
 double_xor : (a b : ℕ) → bit_xor a b * 2 % 2 ^ 32 ≡ bit_xor (a * 2 % 2 ^ 32) (b * 2 % 2 ^ 32)
-double_xor a b =
-    ap (λ (x : ℕ). x % 2 ^ 32) (sym (simp add-zero at (xor_block 1 a b 0 0 (lit< tt) (lit< tt)))) ∙ xor_mod (a * 2) (b * 2) 32
+double_xor a b = grind (arith, xor_block 1 a b 0 0, xor_mod (a * 2) (b * 2) 32)
 
 cancel : (a b c : Bool) → xor (xor a c) (xor b c) ≡ xor a b
 unfolding xor
@@ -28,22 +23,15 @@ cancel a b c = grind arith
 add_bit : (r x : ℕ) (new : Bool) → crc_bit (bit_xor r x) (xor new (bit x 31)) ≡ bit_xor (crc_bit r new) (x * 2 % 2 ^ 32)
 unfolding crc_bit
 add_bit r x new =
-    let a : ℕ = r * 2 % 2 ^ 32 in
-    let b : ℕ = x * 2 % 2 ^ 32 in
-    let p : ℕ = cond (xor (bit r 31) new) 0x04C1_1DB7 0 in
-    ap₂ (λ (y : ℕ) (d : Bool). bit_xor y (cond d 0x04C1_1DB7 0)) (double_xor r x)
-    (ap (λ d. xor d (xor new (bit x 31))) (bit-bit_xor r x 31) ∙ cancel (bit r 31) new (bit x 31))
-    ∙ xor_assoc a b p ∙ ap (bit_xor a) (xor_comm b p) ∙ sym (xor_assoc a p b)
+    rw (bit-bit_xor r x 31, cancel (bit r 31) new (bit x 31), double_xor r x)
+    (grind (arith, xor_assoc, xor_comm))
 
 -- bit n of the highest byte is on top once the j bits above it are gone
 on_top : (x n j : ℕ) → n + j ≡ 7 → bit (x / 2 ^ 24) n ≡ bit (x * 2 ^ j % 2 ^ 32) 31
 on_top x n j e =
     let s : 24 + n + j ≡ 31 = omega arith in
-    let d : x / 2 ^ 24 / 2 ^ n ≡ x * 2 ^ j / 2 ^ 31
-    = shr-shr x 24 n ∙ sym (mul-div-mul_right x (2 ^ (24 + n)) (pow_pos j))
-    ∙ ap (λ (k : ℕ). x * 2 ^ j / k) (sym (pow-add 2 (24 + n) j) ∙ ap (λ (k : ℕ). 2 ^ k) s) in
-    let m : x / 2 ^ 24 / 2 ^ n % 2 ≡ x * 2 ^ j % 2 ^ 32 / 2 ^ 31 % 2 = omega arith in
-    ap (λ (k : ℕ). eqb k 1) m
+    let d = mul-div-mul_right x (2 ^ (24 + n)) (pow_pos j) in
+    grind (arith, shr-shr x 24 n, pow-add 2 (24 + n) j, s, d)
 
 -- n bits of the byte are to come, and j are gone
 add_bits : (x n j r b : ℕ) → n + j ≡ 8
@@ -51,22 +39,19 @@ add_bits : (x n j r b : ℕ) → n + j ≡ 8
 unfolding crc_bits
 add_bits x zero j r b e = let f : j ≡ 8 = omega arith in rw f
 add_bits x (suc n) j r b e =
-    let y : ℕ = x * 2 ^ j % 2 ^ 32 in
-    let twice : y * 2 % 2 ^ 32 ≡ x * 2 ^ suc j % 2 ^ 32 = rw (pow-suc 2 j, ← mul_assoc x (2 ^ j) 2) (omega arith) in
-    ap (λ (q : ℕ). crc_bits q n (bit_xor b (x / 2 ^ 24)))
-    (ap (crc_bit (bit_xor r y)) (bit-bit_xor b (x / 2 ^ 24) n ∙ ap (xor (bit b n)) (on_top x n j (omega arith)))
-    ∙ add_bit r y (bit b n) ∙ ap (bit_xor (crc_bit r (bit b n))) twice)
-    ∙ add_bits x n (suc j) (crc_bit r (bit b n)) b (omega arith)
+    let twice : x * 2 ^ j % 2 ^ 32 * 2 % 2 ^ 32 ≡ x * 2 ^ suc j % 2 ^ 32 = rw (pow-suc 2 j, ← mul_assoc x (2 ^ j) 2) (omega arith) in
+    rw (bit-bit_xor b (x / 2 ^ 24) n, on_top x n j (omega arith), add_bit r (x * 2 ^ j % 2 ^ 32) (bit b n), twice)
+    (add_bits x n (suc j) (crc_bit r (bit b n)) b (omega arith))
 
 pub undo : (a b : ℕ) → bit_xor (bit_xor a b) b ≡ a
-undo a b = xor_assoc a b b ∙ ap (bit_xor a) (xor_self b) ∙ xor_zero_r a
+undo a b = simp (xor_assoc, xor_self, xor_zero_r)
 
 -- the byte with the register's highest byte added says what is added to the rest of the register
 pub by_highest : (r b : ℕ) → r < 2 ^ 32 → crc_byte r b ≡ bit_xor (crc_byte 0 (bit_xor b (r / 2 ^ 24))) (r * 2 ^ 8 % 2 ^ 32)
 unfolding crc_byte
 by_highest r b h =
-    ap₂ (λ (x y : ℕ). crc_bits x 8 y) (sym (ap (λ (x : ℕ). x % 2 ^ 32) (mul-one r) ∙ mod-eq_of_lt h)) (sym (undo b (r / 2 ^ 24)))
-    ∙ add_bits r 8 0 0 (bit_xor b (r / 2 ^ 24)) refl
+    let e = add_bits r 8 0 0 (bit_xor b (r / 2 ^ 24)) refl in
+    rw (mul-one, mod-eq_of_lt h, undo b (r / 2 ^ 24)) at e
 
 pub place_lt : (b r : ℕ) → b < 256 → r < 2 ^ 32 → bit_xor b (r / 2 ^ 24) < 256
 place_lt b r h k = xor_lt 8 b (r / 2 ^ 24) h (omega arith)
@@ -78,5 +63,4 @@ table = map (crc_byte 0) (range_with_len 0 256)
 pub by_table : (b r : ℕ) → b < 256 → r < 2 ^ 32 → bit_xor (get_or table (bit_xor b (r / 2 ^ 24)) 0) (r * 2 ^ 8 % 2 ^ 32) ≡ crc_byte r b
 by_table b r h k =
     let t : ℕ = bit_xor b (r / 2 ^ 24) in
-    ap (λ (x : ℕ). bit_xor x (r * 2 ^ 8 % 2 ^ 32)) (get_or-map-range_with_len (crc_byte 0) 0 256 t t 0 (place_lt b r h k) (zero-add t))
-    ∙ sym (by_highest r b k)
+    rw (get_or-map-range_with_len (crc_byte 0) 0 256 t t 0 (place_lt b r h k) (zero-add t)) (sym (by_highest r b k))

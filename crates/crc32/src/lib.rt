@@ -9,8 +9,8 @@ ghost use Rattle.crc32.specs.Crc.{ClosedBy, crc, crc_byte};
 fn step(register: u32, byte: u8) -> u32
     ensures { result ≡ crc_byte register byte }
 {
-    let place = (byte as usize) ^ ((register >> 24) as usize);
-    TABLE[place] ^ (register << 8)
+    let [highest, ..] = register.to_be_bytes();
+    TABLE[usize::from(byte ^ highest)] ^ (register << 8)
 }
 
 /// The CRC_32 of `bytes`. Followed by the four bytes of this number, the highest first, `bytes` has the CRC_32 0, and
@@ -19,11 +19,9 @@ pub fn crc_32(bytes: &[u8]) -> u32
     ensures value { result ≡ crc bytes.now }
     ensures closes { ClosedBy bytes.now result }
 {
-    let mut register = 0xFFFF_FFFF;
-    for byte in bytes {
-        register = step(register, *byte);
-    }
-    register
+    bytes
+        .iter()
+        .fold(0xFFFF_FFFF, |register, byte| step(register, *byte))
 }
 
 // What each byte leaves in a register of zeros.

@@ -1,45 +1,53 @@
 //! The arguments of a program that knows none but `--help`.
-ghost use Rattle.std.specs.Prelude.{◌≡◌, true, false, is_err, IfOk, None, Ok, ◌≢◌};
+ghost use Rattle.std.specs.Prelude.{◌≡◌, ◌≢◌, false, true, IfOk, IsErr, None, Ok};
 ghost use Rattle.program.specs.Arguments.{LoneHelp};
-ghost use Rattle.program.specs.declared.arguments.Request.TheVariants.{Run, Usage, Unknown};
 
-use anyhow::anyhow;
 use std::env;
+use thiserror::Error;
 
 // What a program can be asked for by its arguments.
 #[derive(Clone, Copy)]
 enum Request {
     Run,
     Usage,
-    Unknown,
 }
 
+#[derive(Debug, Drop, Error)]
+#[error("these arguments are not known")]
+struct UnknownArguments;
+
 // What the arguments ask for: the first, where there is one, and whether more follow.
-fn asked_for(first: Option<&str>, more: bool) -> Request
-    ensures run { first.entry ≡ None → result ≡ Run }
-    ensures usage { LoneHelp first.entry more → result ≡ Usage }
-    ensures unknown { (first.entry ≢ None) → (LoneHelp first.entry more → ⊥) → result ≡ Unknown }
+fn asked_for(first: Option<&str>, more: bool) -> Result<Request, UnknownArguments>
+    ensures run { first.entry ≡ None → result ≡ Ok Request.Run }
+    ensures usage { LoneHelp first.entry more → result ≡ Ok Request.Usage }
+    ensures unknown { (first.entry ≢ None) → (LoneHelp first.entry more → ⊥) → IsErr result }
 {
     match (first, more) {
-        (None, _) => Request::Run,
-        (Some("--help"), false) => Request::Usage,
-        _ => Request::Unknown,
+        (None, _) => Ok(Request::Run),
+        (Some("--help"), false) => Ok(Request::Usage),
+        _ => Err(UnknownArguments),
     }
 }
 
 // Prints the usage where it is due, and answers whether the program is to do its work.
-fn answer(rt: &HostRuntime, usage: &str, request: Request) -> anyhow::Result<bool>
-    ensures { elim request [ Run ↦ result ≡ Ok true | Usage ↦ IfOk result (λ run. run ≡ false) | Unknown ↦ is_err result ≡ true ] }
+fn answer(
+    rt: &HostRuntime,
+    usage: &str,
+    request: Result<Request, UnknownArguments>,
+) -> anyhow::Result<bool>
+    ensures run { request ≡ Ok Request.Run → result ≡ Ok true }
+    ensures usage { request ≡ Ok Request.Usage → IfOk result (λ run. run ≡ false) }
+    ensures unknown { IsErr request → IsErr result }
 {
     match request {
-        Request::Run => Ok(true),
-        Request::Usage => {
-            rt.println(usage)?;
+        Ok(Request::Run) => Ok(true),
+        Ok(Request::Usage) => {
+            println!(rt; "{usage}")?;
             Ok(false)
         }
-        Request::Unknown => {
-            rt.eprintln(usage)?;
-            Err(anyhow!("these arguments are not known"))
+        Err(unknown) => {
+            eprintln!(rt; "{usage}")?;
+            Err(unknown.into())
         }
     }
 }

@@ -3,30 +3,24 @@ ghost use Rattle.std.specs.Prelude.{◌≡◌, ℕ, ◌<◌, IfOk, Some, None, E
 ghost use Rattle.program.specs.Hex.{hex_digit, Digits, in_hex, StandsFor, NoBytes};
 ghost use Rattle.program.specs.declared.hex.HexError.TheVariants.{NotHex, NoMemory};
 
-use anyhow::anyhow;
 use std::alloc::{AllocFailed, Global};
+use thiserror::Error;
 
 /// Why a text gives no bytes.
-#[derive(Drop)]
+#[derive(Debug, Drop, Error)]
 pub enum HexError {
+    #[error("bytes in hex have two digits each, 0 to 9 and A to F")]
     NotHex,
+    #[error("there is no memory for the bytes")]
     NoMemory,
 }
 
+// Written by hand, since the clauses below name the error that a `?` makes of a refused allocation.
 impl<T: Drop> From<AllocFailed<T>> for HexError {
     ghost from_gives = { λ _ r. r ≡ NoMemory };
 
     fn from(_refused: AllocFailed<T>) -> HexError {
         HexError::NoMemory
-    }
-}
-
-impl From<HexError> for anyhow::Error {
-    fn from(error: HexError) -> anyhow::Error {
-        match error {
-            HexError::NotHex => anyhow!("bytes in hex have two digits each, 0 to 9 and A to F"),
-            HexError::NoMemory => anyhow!("there is no memory for the bytes"),
-        }
     }
 }
 
@@ -54,10 +48,7 @@ fn read_digits(heap: Global, text: &[u8]) -> Result<Vec<u8>, HexError>
     let mut bytes = Vec::new(heap);
     let mut left = text;
     while let [high, low, rest @ ..] = left {
-        let Some(byte) = byte(*high, *low) else {
-            return Err(HexError::NotHex);
-        };
-        bytes.push(byte)?;
+        bytes.push(byte(*high, *low).ok_or(HexError::NotHex)?)?;
         left = rest;
     }
     if left.is_empty() {

@@ -2,54 +2,33 @@
 //! the number and the place of the refusal, or 0 0. The stored lines come from other programs.
 #![tactic(auto)]
 
-ghost use Rattle.std.specs.Prelude.{◌<◌, IfOk};
-
-use anyhow::anyhow;
 use crc32::crc_32;
+use program::bytes_of;
 use section::read;
-use std::alloc::Global;
 use std::io::{BufRead, BufReader};
 
 const ROWS: usize = 256;
 
 const CHECK_COLUMNS: usize = 64;
 
+// The number and the place of the refusal, or 0 0, as the output has them.
 fn answer(section: &[u8]) -> (u8, u64) {
-    match read(section, ROWS, CHECK_COLUMNS) {
-        Ok(_) => (0, 0),
-        Err(refusal) => (refusal.number(), refusal.place()),
-    }
-}
-
-fn digit(hex: u8) -> anyhow::Result<u8>
-    ensures { IfOk result (λ d. d < 16) }
-{
-    match hex {
-        b'0'..=b'9' => Ok(hex - b'0'),
-        b'A'..=b'F' => Ok(hex - b'A' + 10),
-        _ => Err(anyhow!("this is no digit of a number in hex")),
-    }
-}
-
-// The bytes of a text in hex; a lone `-` stands for none.
-fn bytes_of(heap: Global, text: &str) -> anyhow::Result<Vec<u8>> {
-    let mut bytes = Vec::new(heap);
-    for pair in text.as_bytes().chunks(2) {
-        match pair {
-            [high, low] => bytes.push(digit(*high)? * 16 + digit(*low)?)?,
-            [b'-'] if text.len() == 1 => {}
-            _ => return Err(anyhow!("a byte in hex has two digits")),
-        }
-    }
-    Ok(bytes)
+    read(section, ROWS, CHECK_COLUMNS).map_or_else(
+        |refusal| (refusal.number(), refusal.place()),
+        |_| (0, 0),
+    )
 }
 
 fn run(rt: &HostRuntime) -> anyhow::Result<()> {
     for line in BufReader::new(rt.alloc(), rt.stdin())?.lines(rt.alloc()) {
         let text = line?;
-        let bytes = bytes_of(rt.alloc(), text.as_str())?;
-        let crc = crc_32(bytes.as_slice());
-        let (number, place) = answer(bytes.as_slice());
+        // An empty line stands for no bytes, as a lone `-` does.
+        let bytes = match text.as_str() {
+            "" => Vec::new(rt.alloc()),
+            hex => bytes_of(rt.alloc(), hex)?,
+        };
+        let crc = crc_32(&bytes);
+        let (number, place) = answer(&bytes);
         println!(rt; "{text} {crc:08X} {number} {place}")?;
     }
     Ok(())

@@ -35,6 +35,7 @@ struct Description {
     payload: Vec<u8>,
 }
 
+// Not a `FromStr`: `IpVersion` belongs to another crate, and a line knows no words but these two.
 fn version_of(word: &str) -> anyhow::Result<IpVersion> {
     match word {
         "4" => Ok(IpVersion::V4),
@@ -43,6 +44,7 @@ fn version_of(word: &str) -> anyhow::Result<IpVersion> {
     }
 }
 
+// Not `parse`, which reads `true` and `false`.
 fn flag_of(word: &str) -> anyhow::Result<bool> {
     match word {
         "0" => Ok(false),
@@ -56,8 +58,8 @@ fn header_of(words: &[&str]) -> anyhow::Result<(Header, FrameSize)> {
     match words {
         ["datagram", mac_6, mac_5, version] => {
             let header = DatagramHeader {
-                mac_address_6: mac_6.parse::<u8>()?,
-                mac_address_5: mac_5.parse::<u8>()?,
+                mac_address_6: mac_6.parse()?,
+                mac_address_5: mac_5.parse()?,
                 version: version_of(version)?,
             };
             let size = FrameSize {
@@ -68,13 +70,13 @@ fn header_of(words: &[&str]) -> anyhow::Result<(Header, FrameSize)> {
         }
         ["check", p, s, last, rows, columns] => {
             let header = CheckHeader {
-                padding_columns: p.parse::<u8>()?,
-                number: s.parse::<u8>()?,
-                last: last.parse::<u8>()?,
+                padding_columns: p.parse()?,
+                number: s.parse()?,
+                last: last.parse()?,
             };
             let size = FrameSize {
-                rows: rows.parse::<usize>()?,
-                columns: columns.parse::<usize>()?,
+                rows: rows.parse()?,
+                columns: columns.parse()?,
             };
             Ok((Header::Check(header), size))
         }
@@ -84,10 +86,10 @@ fn header_of(words: &[&str]) -> anyhow::Result<(Header, FrameSize)> {
 
 fn timing_of(delta_t: &str, table: &str, frame: &str, address: &str) -> anyhow::Result<RealTime> {
     Ok(RealTime {
-        delta_t: delta_t.parse::<u16>()?,
+        delta_t: delta_t.parse()?,
         table_boundary: flag_of(table)?,
         frame_boundary: flag_of(frame)?,
-        address: address.parse::<u32>()?,
+        address: address.parse()?,
     })
 }
 
@@ -106,9 +108,8 @@ fn described(heap: Global, line: io::Result<String>) -> anyhow::Result<Descripti
     })
 }
 
-// Prints the section that a buffer begins with.
-fn print_section(out: &mut impl Write, buffer: &[u8], length: usize) -> io::Result<()> {
-    for byte in buffer.iter().take(length) {
+fn print_section(out: &mut impl Write, section: &[u8]) -> io::Result<()> {
+    for byte in section {
         write!(out, "{byte:02X}")?;
     }
     writeln!(out)
@@ -124,25 +125,23 @@ fn print_answer(out: &mut impl Write, description: &Description) -> io::Result<(
     let section = Section {
         header: description.header,
         timing: description.timing,
-        payload: description.payload.as_slice(),
+        payload: &description.payload,
     };
     let FrameSize { rows, columns } = description.size;
     let mut buffer = [0; BUFFER];
     match write(section, rows, columns, &mut buffer) {
-        Ok(length) => print_section(out, &buffer, length),
+        Ok(length) => print_section(out, &buffer[..length]),
         Err(refusal) => print_refusal(out, refusal),
     }
 }
 
 // Answers each line of the input, up to one that describes no section.
 fn print_answers(rt: &HostRuntime, out: &mut impl Write) -> anyhow::Result<()> {
-    let mut number = 0u64;
-    for line in BufReader::new(rt.alloc(), rt.stdin())?.lines(rt.alloc()) {
-        number = number.saturating_add(1);
-        match described(rt.alloc(), line) {
-            Ok(description) => print_answer(out, &description)?,
-            Err(why) => return Err(anyhow!(format!(in rt.alloc(); "line {number}: {why}")?)),
-        }
+    let heap = rt.alloc();
+    let lines = BufReader::new(heap, rt.stdin())?.lines(heap);
+    for (number, line) in (1u64..).zip(lines) {
+        let description = described(heap, line).map_err(|why| anyhow!("line {number}: {why}"))?;
+        print_answer(out, &description)?;
     }
     Ok(())
 }

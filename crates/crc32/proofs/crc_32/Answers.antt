@@ -1,19 +1,17 @@
--- A turn takes one byte off what is left, and at the end nothing is left.
-use Rattle.std.proofs.Common.{◌≡◌, sym, ◌∙◌, subst}
-use Rattle.std.proofs.lemmas.List.{at_drop_more, at_drop_all}
-use Rattle.crc32.specs.Crc.{crc, crc_from, ClosedBy}
+-- The chain folds the bytes into the register, as the definition does.
+use Rattle.std.proofs.Common.{◌≡◌, ℕ, List, [], ◌∷◌, fold, rules, sym, refl, ◌∙◌, subst}
+use Rattle.crc32.specs.Crc.{crc, crc_byte, crc_from, ClosedBy}
 use Rattle.crc32.proofs.Closing.{closed}
 use Rattle.crc32.proofs.crc_32.Goals as goal
 
-pub loop-byte-preserved : goal.loop-byte-preserved
+fold-crc_byte : (r : ℕ) (s : List ℕ) → fold crc_byte r s ≡ crc_from r s
 unfolding crc_from
-loop-byte-preserved c =
-    let e = at_drop_more (crc_from c.loop-byte.register) c.args.bytes.now c.loop-byte.byte-index 0 c.loop-byte-test.true in
-    rw c.step-register.ensures (sym e ∙ c.loop-byte.invariant)
+fold-crc_byte r [] = refl
+fold-crc_byte r (b ∷ s) = fold-crc_byte (crc_byte r b) s
 
 pub returns : goal.returns
-unfolding crc crc_from
+unfolding crc
 returns c =
-    let e : c.loop-byte.register ≡ crc c.args.bytes.now
-    = sym (at_drop_all (crc_from c.loop-byte.register) c.args.bytes.now c.loop-byte.byte-index c.loop-byte-test.false) ∙ c.loop-byte.invariant in
+    let folded : c.fold.result ≡ fold crc_byte 0xFFFF_FFFF c.args.bytes.now = search rules in
+    let e : c.fold.result ≡ crc c.args.bytes.now = folded ∙ fold-crc_byte 0xFFFF_FFFF c.args.bytes.now in
     record { value = e; closes = subst (ClosedBy c.args.bytes.now) (sym e) (closed c.args.bytes.now) }
