@@ -1,15 +1,21 @@
 //! How many sections a listing has, and of what kind.
 
 ghost use Rattle.std.specs.Prelude.{◌≡◌};
-ghost use Rattle.stream.specs.Columns.{text};
-ghost use Rattle.listing.specs.Tallies.{empty_tally, counted, summary_of};
+ghost use Rattle.listing.specs.Tallies.{empty_tally, one_more, counted, summary_of};
 
-use crate::lines::Listed;
 use crate::parts::{put_number, put_word};
+use section::Kind;
 use stream::columns::Line;
 
+// Raises a count by one, unless it is at the top.
+fn raise(count: &mut u64)
+    ensures { count.new ≡ one_more count.old }
+{
+    *count = count.saturating_add(1);
+}
+
 /// How many sections were listed, and how many of each kind.
-#[derive(Clone, Copy, PartialEq, Eq, Debug)]
+#[derive(Clone, Copy, Default, PartialEq, Eq, Debug)]
 pub struct Tally {
     sections: u64,
     datagrams: u64,
@@ -22,29 +28,24 @@ impl Tally {
     pub fn new() -> Tally
         ensures { result ≡ empty_tally }
     {
-        Tally {
-            sections: 0,
-            datagrams: 0,
-            checks: 0,
-            refused: 0,
-        }
+        Tally::default()
     }
 
-    /// Counts one section more. A count that is at the top stays there.
-    pub fn count(&mut self, listed: Listed)
-        ensures { self.new ≡ counted listed self.old }
+    /// Counts one section more, by its kind, or as one that is turned away. A count that is at the top stays there.
+    pub fn count(&mut self, kind: Option<Kind>)
+        ensures { self.new ≡ counted kind self.old }
     {
-        self.sections = self.sections.saturating_add(1);
-        match listed {
-            Listed::Datagram => self.datagrams = self.datagrams.saturating_add(1),
-            Listed::Check => self.checks = self.checks.saturating_add(1),
-            Listed::Refused => self.refused = self.refused.saturating_add(1),
+        raise(&mut self.sections);
+        match kind {
+            Some(Kind::Datagram) => raise(&mut self.datagrams),
+            Some(Kind::Check) => raise(&mut self.checks),
+            None => raise(&mut self.refused),
         }
     }
 
     /// The last line of a listing.
     pub fn summary(&self) -> Line
-        ensures { text result ≡ summary_of self.now }
+        ensures { result ≡ summary_of self.now }
     {
         let mut line = Line::new();
         put_word(&mut line, "sections ", 0);

@@ -1,10 +1,10 @@
 use Rattle.std.proofs.Common.{arith}
-use Rattle.stream.specs.Columns.{right_aligned, text}
-use Rattle.listing.proofs.Widths.{number_short, part_added}
+use Rattle.std.proofs.lemmas.Fmt.{length-decimal-le}
+use Rattle.std.proofs.lemmas.Grind.{common_steps}
 use Rattle.listing.proofs.parts.put_number.Goals as goal
 
-pub returns : goal.returns
-returns c =
-    let told = c.decimal.ensures in
-    let put = part_added (text c.args.line.now) _ (right_aligned c.args.columns c.args.number) _ told.fits told.written c.requires.room (number_short c.args.columns c.args.number c.requires.small (omega arith)) in
-    record { added = put.0; grown = put.1 }
+pub unwrap-requires : goal.unwrap-requires
+unwrap-requires c = let few = length-decimal-le 20 c.args.number (omega arith) (omega arith) (omega arith) in grind (arith, common_steps)
+
+pub returns-clause-grown : goal.returns-clause-grown
+returns-clause-grown c = let few = length-decimal-le 20 c.args.number (omega arith) (omega arith) (omega arith) in grind (arith, common_steps)
