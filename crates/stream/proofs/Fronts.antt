@@ -1,6 +1,6 @@
 -- Where the first piece of a stream ends.
 use Rattle.std.proofs.Common.{◌≡◌, ℕ, zero, suc, ◌+◌, ◌<◌, ◌≤◌, Bool, true, ◌⊎◌, List, [], ◌∷◌, ◌++◌, length, take, drop, sym, refl, ap, ◌∙◌, subst, inl, inr, ⊎_elim, append_assoc, append-nil, arith, length-append}
-use Rattle.std.proofs.lemmas.List.{get_or_append_left, get_or-take, length-take-le, take-append-drop, take_at, drop_at, take_all, drop_all, nil_from_length}
+use Rattle.std.proofs.lemmas.List.{get_or_append_left, get_or-take, length-take-le, take-append-drop, take_at, drop_at, take_all, drop_all}
 use Rattle.std.proofs.lemmas.Bool.{and_from, and_left, and_right, and_parts, and_cases, le-leb, lt-leb, leb-true, leb-false, cond-true, cond-false, cases_Bool}
 use Rattle.stream.specs.Cut.{length_told, is_cut, size_of_first, first_piece, after_first, pieces, WholeSection, TooShort, Follows, TellsSize}
 
@@ -108,11 +108,6 @@ of_nothing (suc k) = refl
 
 pub none_held : (k : ℕ) (s : List ℕ) → s ≡ [] → pieces k s ≡ []
 none_held k s e = ap (pieces k) e ∙ of_nothing k
-
--- no piece is left where the bytes held tell that it would be empty
-pub nothing_held : (held : List ℕ) (ended : Bool) (n : ℕ) → TellsSize held ended n → n ≡ 0 → (held ≡ []) × (ended ≡ true)
-nothing_held held ended n told none =
-    ⊎_elim (λ w. absurd (let e = w.1 in omega arith)) (λ r. (nil_from_length held (sym r.1 ∙ none), r.0)) told.1
 
 pub none_follows : (k : ℕ) (held more : List ℕ) (ended : Bool) → (held ≡ []) × (ended ≡ true) → Follows ended more → pieces k (held ++ more) ≡ []
 none_follows k held more ended none f =

@@ -1,7 +1,7 @@
 //! Numbers and words are set in columns.
 
 ghost use Rattle.std.specs.Prelude.{◌≡◌, ◌+◌, ◌≤◌, ◌↔◌, [], ◌++◌, length, replicate, decimal, IsOk, OnOk, OnErr};
-ghost use Rattle.stream.specs.Columns.{right_aligned, left_aligned, aligned};
+ghost use Rattle.stream.specs.Columns.{right_aligned, left_aligned};
 
 use arrayvec::{ArrayVec, CapacityError};
 use itoa::Buffer;
@@ -53,13 +53,6 @@ fn blank(count: usize) -> &'static [u8]
     &BLANKS[..count]
 }
 
-// The side of a text on which blanks fill its columns.
-#[derive(Clone, Copy)]
-enum Side {
-    Before,
-    Behind,
-}
-
 impl Line {
     /// A line with nothing in it.
     pub fn new() -> Line
@@ -82,9 +75,11 @@ impl Line {
         ensures fits { IsOk result ↔ (length self.old + length (right_aligned columns number) ≤ 256) }
         ensures written { OnOk result (self.new ≡ self.old ++ right_aligned columns number) }
         ensures kept { OnErr result (self.new ≡ self.old) }
+        ensures few_digits { length (decimal number) ≤ 20 }
     {
         let mut buffer = Buffer::new();
-        self.append(buffer.format(number).as_bytes(), columns, Side::Before)
+        let digits = buffer.format(number).as_bytes();
+        self.append(columns.saturating_sub(digits.len()), digits, 0)
     }
 
     /// Appends the word, with blanks after it up to so many columns where it has fewer bytes.
@@ -94,32 +89,21 @@ impl Line {
         ensures written { OnOk result (self.new ≡ self.old ++ left_aligned columns word.now) }
         ensures kept { OnErr result (self.new ≡ self.old) }
     {
-        self.append(word.as_bytes(), columns, Side::Behind)
+        self.append(0, word.as_bytes(), columns.saturating_sub(word.len()))
     }
 
-    // Appends the text with blanks up to so many columns, or nothing where that does not fit the line.
-    fn append(&mut self, text: &[u8], columns: usize, side: Side) -> Result<(), CapacityError>
-        ensures fits { IsOk result ↔ (length self.old + length (aligned side columns text.now) ≤ 256) }
-        ensures written { OnOk result (self.new ≡ self.old ++ aligned side columns text.now) }
+    // Appends the text with so many blanks before and behind it, or nothing where that does not fit the line.
+    fn append(&mut self, before: usize, text: &[u8], behind: usize) -> Result<(), CapacityError>
+        ensures fits { IsOk result ↔ (length self.old + before + length text.now + behind ≤ 256) }
+        ensures written { OnOk result (self.new ≡ self.old ++ replicate before 32 ++ text.now ++ replicate behind 32) }
         ensures kept { OnErr result (self.new ≡ self.old) }
     {
-        let width = columns.max(text.len());
+        let width = before.saturating_add(text.len()).saturating_add(behind);
         if width > self.text.remaining_capacity() {
             return Err(CapacityError::new(()));
         }
-        let fill = blank(width - text.len());
-        match side {
-            Side::Before => self.append_both(fill, text),
-            Side::Behind => self.append_both(text, fill),
-        }
-    }
-
-    fn append_both(&mut self, first: &[u8], second: &[u8]) -> Result<(), CapacityError>
-        requires { length self.old + length first.now + length second.now ≤ 256 }
-        ensures fits { IsOk result }
-        ensures written { self.new ≡ self.old ++ first.now ++ second.now }
-    {
-        self.text.try_extend_from_slice(first)?;
-        self.text.try_extend_from_slice(second)
+        self.text.try_extend_from_slice(blank(before))?;
+        self.text.try_extend_from_slice(text)?;
+        self.text.try_extend_from_slice(blank(behind))
     }
 }
