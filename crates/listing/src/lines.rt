@@ -1,9 +1,11 @@
 //! The line of a listing that tells what a section is, or why it is turned away.
 
-ghost use Rattle.std.specs.Prelude.{◌≡◌, ◌+◌, ◌-◌, ◌^◌, ◌≤◌, ◌++◌, min, length};
+ghost use Rattle.std.specs.Prelude.{◌≡◌, ◌+◌, ◌-◌, ◌*◌, ◌^◌, ◌≤◌, ◌++◌, min, length, All, flat_map};
 ghost use Rattle.listing.specs.Lines.{kind_word, beginning, timing_columns, header_columns, refusal_columns, Lists};
+ghost use Rattle.listing.specs.Parts.{part_text, IsShort};
 
-use crate::parts::{put_number, put_word};
+use crate::parts::Part::{Number, Word};
+use crate::parts::{Part, put};
 use refusal::Refusal;
 use section::{Header, Kind, RealTime, read};
 use stream::columns::Line;
@@ -47,58 +49,67 @@ fn word(kind: Option<Kind>) -> &'static str
 }
 
 // What every line begins with.
-fn begin(position: Position, size: usize, kind: Option<Kind>) -> Line
-    ensures begun { result ≡ beginning position.number position.offset size kind }
-    ensures short { length result ≤ 100 }
+fn beginning_parts(position: Position, size: usize, kind: Option<Kind>) -> [Part; 5]
+    ensures text { flat_map part_text result ≡ beginning position.number position.offset size kind }
+    ensures short { All IsShort result }
 {
-    let mut line = Line::new();
-    put_number(&mut line, position.number, 7);
-    put_number(&mut line, position.offset, 9);
-    put_number(&mut line, size as u64, 6);
-    put_word(&mut line, " ", 1);
-    put_word(&mut line, word(kind), 8);
-    line
+    [
+        Number(position.number, 7),
+        Number(position.offset, 9),
+        Number(size as u64, 6),
+        Word(" ", 1),
+        Word(word(kind), 8),
+    ]
 }
 
 // The address, delta_t and the two boundaries.
-fn put_timing(line: &mut Line, timing: RealTime)
-    requires { length line.old ≤ 100 }
-    ensures added { line.new ≡ line.old ++ timing_columns timing }
-    ensures short { length line.new ≤ 180 }
+fn timing_parts(timing: RealTime) -> [Part; 4]
+    ensures text { flat_map part_text result ≡ timing_columns timing }
+    ensures short { All IsShort result }
 {
-    put_number(line, u64::from(timing.address), 8);
-    put_number(line, u64::from(timing.delta_t), 8);
-    put_number(line, u64::from(timing.table_boundary), 3);
-    put_number(line, u64::from(timing.frame_boundary), 3);
-}
-
-// What the header says, and for a datagram its size.
-fn put_header(line: &mut Line, header: Header, size: usize)
-    requires { length line.old ≤ 180 }
-    ensures { line.new ≡ line.old ++ header_columns header size }
-{
-    match header {
-        Header::Datagram(datagram) => {
-            put_number(line, u64::from(datagram.version.number()), 3);
-            put_number(line, size as u64, 6);
-        }
-        Header::Check(check) => {
-            put_number(line, u64::from(check.number), 4);
-            put_number(line, u64::from(check.last), 4);
-            put_number(line, u64::from(check.padding_columns), 4);
-        }
-    }
+    [
+        Number(u64::from(timing.address), 8),
+        Number(u64::from(timing.delta_t), 8),
+        Number(u64::from(timing.table_boundary), 3),
+        Number(u64::from(timing.frame_boundary), 3),
+    ]
 }
 
 // The refusal's number, its layer and its place.
-fn put_refusal(line: &mut Line, refusal: Refusal)
-    requires { length line.old ≤ 100 }
-    ensures { line.new ≡ line.old ++ refusal_columns refusal }
+fn refusal_parts(refusal: Refusal) -> [Part; 4]
+    ensures text { flat_map part_text result ≡ refusal_columns refusal }
+    ensures short { All IsShort result }
 {
-    put_number(line, u64::from(refusal.number()), 3);
-    put_word(line, " ", 1);
-    put_word(line, refusal.layer().word(), 7);
-    put_number(line, refusal.place(), 9);
+    [
+        Number(u64::from(refusal.number()), 3),
+        Word(" ", 1),
+        Word(refusal.layer().word(), 7),
+        Number(refusal.place(), 9),
+    ]
+}
+
+// What the header says, and for a datagram its size: three parts at most.
+fn put_header(line: &mut Line, header: Header, size: usize)
+    requires { length line.old + 20 * 3 ≤ 256 }
+    ensures { line.new ≡ line.old ++ header_columns header size }
+{
+    match header {
+        Header::Datagram(datagram) => put(
+            line,
+            &[
+                Number(u64::from(datagram.version.number()), 3),
+                Number(size as u64, 6),
+            ],
+        ),
+        Header::Check(check) => put(
+            line,
+            &[
+                Number(u64::from(check.number), 4),
+                Number(u64::from(check.last), 4),
+                Number(u64::from(check.padding_columns), 4),
+            ],
+        ),
+    }
 }
 
 /// The line of the section at this position, and the section's kind, `None` where it is turned away.
@@ -106,17 +117,18 @@ fn put_refusal(line: &mut Line, refusal: Refusal)
 pub fn section_line(position: Position, section: &[u8]) -> (Line, Option<Kind>)
     ensures { Lists position.number position.offset section.now result.0 result.1 }
 {
+    let mut line = Line::new();
     match read(section, ROWS, CHECK_COLUMNS) {
         Ok(fields) => {
             let kind = Some(fields.header.kind());
-            let mut line = begin(position, section.len(), kind);
-            put_timing(&mut line, fields.timing);
+            put(&mut line, &beginning_parts(position, section.len(), kind));
+            put(&mut line, &timing_parts(fields.timing));
             put_header(&mut line, fields.header, fields.payload.len());
             (line, kind)
         }
         Err(refusal) => {
-            let mut line = begin(position, section.len(), None);
-            put_refusal(&mut line, refusal);
+            put(&mut line, &beginning_parts(position, section.len(), None));
+            put(&mut line, &refusal_parts(refusal));
             (line, None)
         }
     }

@@ -3,7 +3,8 @@
 ghost use Rattle.std.specs.Prelude.{◌≡◌};
 ghost use Rattle.listing.specs.Tallies.{empty_tally, one_more, counted, summary_of};
 
-use crate::parts::{put_number, put_word};
+use crate::parts::Part::{Number, Word};
+use crate::parts::put;
 use section::Kind;
 use stream::columns::Line;
 
@@ -48,14 +49,19 @@ impl Tally {
         ensures { result ≡ summary_of self.now }
     {
         let mut line = Line::new();
-        put_word(&mut line, "sections ", 0);
-        put_number(&mut line, self.sections, 0);
-        put_word(&mut line, " datagram ", 0);
-        put_number(&mut line, self.datagrams, 0);
-        put_word(&mut line, " check ", 0);
-        put_number(&mut line, self.checks, 0);
-        put_word(&mut line, " refused ", 0);
-        put_number(&mut line, self.refused, 0);
+        put(
+            &mut line,
+            &[
+                Word("sections ", 0),
+                Number(self.sections, 0),
+                Word(" datagram ", 0),
+                Number(self.datagrams, 0),
+                Word(" check ", 0),
+                Number(self.checks, 0),
+                Word(" refused ", 0),
+                Number(self.refused, 0),
+            ],
+        );
         line
     }
 }
