@@ -12,6 +12,14 @@ const ROOM: usize = 256;
 
 static BLANKS: [u8; ROOM] = [b' '; ROOM];
 
+// So many blanks.
+fn blank(count: usize) -> &'static [u8]
+    requires { count ≤ 256 }
+    ensures { result.now ≡ replicate count 32 }
+{
+    &BLANKS[..count]
+}
+
 /// Writes the number in decimal over the whole field, right-justified with blanks before it.
 /// Where its digits do not fit, the field stays as it was.
 pub fn right_justified(number: u64, field: &mut [u8]) -> Result<(), CapacityError>
@@ -45,14 +53,6 @@ impl Model for Line {
     ghost view = { λ line. line.text.items };
 }
 
-// So many blanks.
-fn blank(count: usize) -> &'static [u8]
-    requires { count ≤ 256 }
-    ensures { result.now ≡ replicate count 32 }
-{
-    &BLANKS[..count]
-}
-
 impl Line {
     /// A line with nothing in it.
     pub fn new() -> Line
@@ -70,7 +70,7 @@ impl Line {
     }
 
     /// Appends the number, with blanks before it up to so many columns where it has fewer digits.
-    /// Where that does not fit the line, the text stays as it was.
+    /// Where that does not fit the line, the text stays as it was. No number has more than 20 digits.
     pub fn decimal(&mut self, number: u64, columns: usize) -> Result<(), CapacityError>
         ensures fits { IsOk result ↔ (length self.old + length (right_aligned columns number) ≤ 256) }
         ensures written { OnOk result (self.new ≡ self.old ++ right_aligned columns number) }

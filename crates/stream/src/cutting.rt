@@ -37,6 +37,7 @@ impl Cutter {
     }
 
     /// The next piece of the stream that begins with the bytes held, and ends with them where it has `ended`.
+    #[tactic(auto, using(crate::proofs::Fronts::cuts))]
     pub fn next(&mut self, held: &[u8], ended: bool) -> Cut
         ensures cuts { Cuts held.now ended self.old.left self.new.left result }
         ensures window { result ≡ Cut.More → length held.now < 4098 }
