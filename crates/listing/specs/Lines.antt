@@ -1,28 +1,28 @@
 -- The line of a listing that tells what a section is, or why it is turned away.
-use Rattle.std.specs.Prelude.{◌≡◌, ℕ, Bool, cond, List, ◌++◌, length, Ok, Err, codes, Result}
+use Rattle.std.specs.Prelude.{◌≡◌, ℕ, Bool, cond, List, ◌++◌, length, Option, Some, None, Ok, Err, codes, Result}
 use Rattle.refusal.specs.declared.Refusal.{Refusal}
 use Rattle.refusal.specs.Refusals.{number_of, layer_of, place_of, layer_word}
 use Rattle.refusal.specs.Rules.{Answers}
+use Rattle.section.specs.declared.kinds.Kind.{Kind}
+use Rattle.section.specs.declared.kinds.Kind.TheVariants.{Datagram, Check}
 use Rattle.section.specs.declared.reading.Header.{Header}
 use Rattle.section.specs.declared.reading.Header.TheVariants.{Datagram as datagram_header, Check as check_header}
 use Rattle.section.specs.declared.reading.Section.{Section}
 use Rattle.section.specs.declared.timing.RealTime.{RealTime}
 use Rattle.section.specs.Datagrams.{version_number}
+use Rattle.section.specs.Layout.{kind_of as kind_of_header}
 use Rattle.section.specs.Rules.{read_rules}
 use Rattle.section.specs.Sections.{SectionOf}
-use Rattle.stream.specs.declared.columns.layout.Line.{Line}
-use Rattle.stream.specs.Columns.{right_aligned, left_aligned, text}
-use Rattle.listing.specs.declared.lines.Listed.{Listed}
-use Rattle.listing.specs.declared.lines.Listed.TheVariants.{Datagram, Check, Refused}
+use Rattle.stream.specs.Columns.{right_aligned, left_aligned}
 
 -- what a line tells of, as a word
-abbrev pub kind_word : Listed → List ℕ
-kind_word Datagram = codes "datagram"
-kind_word Check = codes "check"
-kind_word Refused = codes "refused"
+abbrev pub kind_word : Option Kind → List ℕ
+kind_word (Some Datagram) = codes "datagram"
+kind_word (Some Check) = codes "check"
+kind_word None = codes "refused"
 
 -- what every line begins with, for a section of n bytes
-abbrev pub beginning : (number offset n : ℕ) → Listed → List ℕ
+abbrev pub beginning : (number offset n : ℕ) → Option Kind → List ℕ
 beginning number offset n kind =
     right_aligned 7 number ++ right_aligned 9 offset ++ right_aligned 6 n ++ codes " " ++ left_aligned 8 (kind_word kind)
 
@@ -47,15 +47,10 @@ abbrev pub refusal_columns : Refusal → List ℕ
 refusal_columns e =
     right_aligned 3 (number_of e) ++ codes " " ++ left_aligned 7 (layer_word (layer_of e)) ++ right_aligned 9 (place_of e)
 
--- what the line of a section with this header tells of
-abbrev pub kind_of_header : Header → Listed
-kind_of_header (datagram_header h) = Datagram
-kind_of_header (check_header h) = Check
-
 -- what the line tells of, where a section was read or refused
-abbrev pub kind_of : Result Section Refusal → Listed
-kind_of (Ok section) = kind_of_header section.header
-kind_of (Err e) = Refused
+abbrev pub kind_of : Result Section Refusal → Option Kind
+kind_of (Ok section) = Some (kind_of_header section.header)
+kind_of (Err e) = None
 
 -- the columns that differ by the kind of line
 abbrev pub columns_of : Result Section Refusal → List ℕ
@@ -68,11 +63,11 @@ abbrev pub line_of : (number offset n : ℕ) → Result Section Refusal → List
 line_of number offset n answer = beginning number offset n (kind_of answer) ++ columns_of answer
 
 -- The line is that of the section s, read for a burst of 256 rows and 64 check columns, and tells of its kind.
-pub record Lists (number offset : ℕ) (s : List ℕ) (line : Line) (listed : Listed) : Type 0 where
+pub record Lists (number offset : ℕ) (s : List ℕ) (line : List ℕ) (listed : Option Kind) : Type 0 where
   -- what reading the section answers
   pub answer : Result Section Refusal
   pub answers : Answers (read_rules 256 64 s) (SectionOf s) answer
-  -- the text of the line
-  pub written : text line ≡ line_of number offset (length s) answer
+  -- the line
+  pub written : line ≡ line_of number offset (length s) answer
   -- what the line tells of
   pub kind : listed ≡ kind_of answer

@@ -1,7 +1,7 @@
 -- How many sections a listing has, and of what kind.
-use Rattle.std.specs.Prelude.{ℕ, ◌+◌, ◌-◌, ◌^◌, min, List, ◌++◌, codes, decimal}
-use Rattle.listing.specs.declared.lines.Listed.{Listed}
-use Rattle.listing.specs.declared.lines.Listed.TheVariants.{Datagram, Check, Refused}
+use Rattle.std.specs.Prelude.{ℕ, ◌+◌, ◌-◌, ◌^◌, min, List, ◌++◌, Option, Some, None, codes, decimal}
+use Rattle.section.specs.declared.kinds.Kind.{Kind}
+use Rattle.section.specs.declared.kinds.Kind.TheVariants.{Datagram, Check}
 use Rattle.listing.specs.declared.tallies.Tally.{Tally}
 
 -- nothing is counted
@@ -13,10 +13,10 @@ abbrev pub one_more : ℕ → ℕ
 one_more n = min (n + 1) (2 ^ 64 - 1)
 
 -- one section more, which counts for its kind
-abbrev pub counted : Listed → Tally → Tally
-counted Datagram t = record { sections = one_more t.sections; datagrams = one_more t.datagrams; checks = t.checks; refused = t.refused }
-counted Check t = record { sections = one_more t.sections; datagrams = t.datagrams; checks = one_more t.checks; refused = t.refused }
-counted Refused t = record { sections = one_more t.sections; datagrams = t.datagrams; checks = t.checks; refused = one_more t.refused }
+abbrev pub counted : Option Kind → Tally → Tally
+counted (Some Datagram) t = record { sections = one_more t.sections; datagrams = one_more t.datagrams; checks = t.checks; refused = t.refused }
+counted (Some Check) t = record { sections = one_more t.sections; datagrams = t.datagrams; checks = one_more t.checks; refused = t.refused }
+counted None t = record { sections = one_more t.sections; datagrams = t.datagrams; checks = t.checks; refused = one_more t.refused }
 
 -- the last line
 abbrev pub summary_of : Tally → List ℕ

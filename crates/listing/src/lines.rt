@@ -1,12 +1,13 @@
 //! The line of a listing that tells what a section is, or why it is turned away.
 
-ghost use Rattle.std.specs.Prelude.{◌≡◌, ◌+◌, ◌≤◌, ◌++◌, length};
-ghost use Rattle.stream.specs.Columns.{text};
-ghost use Rattle.listing.specs.Lines.{kind_word, kind_of_header, beginning, timing_columns, header_columns, refusal_columns, Lists};
+ghost use Rattle.std.specs.Prelude.{◌≡◌, ◌+◌, ◌-◌, ◌*◌, ◌^◌, ◌≤◌, ◌++◌, min, length, All, flat_map};
+ghost use Rattle.listing.specs.Lines.{kind_word, beginning, timing_columns, header_columns, refusal_columns, Lists};
+ghost use Rattle.listing.specs.Parts.{part_text, IsShort};
 
-use crate::parts::{put_number, put_word};
+use crate::parts::Part::{Number, Word};
+use crate::parts::{Part, put};
 use refusal::Refusal;
-use section::{Header, RealTime, read};
+use section::{Header, Kind, RealTime, read};
 use stream::columns::Line;
 
 /// How many rows the burst has whose sections are listed.
@@ -15,111 +16,120 @@ const ROWS: usize = 256;
 /// How many check columns it has.
 const CHECK_COLUMNS: usize = 64;
 
-/// What a line tells of.
-#[derive(Clone, Copy, PartialEq, Eq, Debug)]
-pub enum Listed {
-    /// A datagram section.
-    Datagram,
-    /// An MPE-FEC section.
-    Check,
-    /// A section that is turned away.
-    Refused,
+/// Which section of its stream a section is, and where it begins there.
+#[derive(Clone, Copy, Default, PartialEq, Eq, Debug)]
+pub struct Position {
+    pub number: u64,
+    pub offset: u64,
 }
 
-impl Listed {
-    fn of_header(header: Header) -> Listed
-        ensures { result ≡ kind_of_header header }
+impl Position {
+    /// The position of the section behind the one here, which has so many bytes. A count that is at the top stays there.
+    pub fn after(self, size: usize) -> Position
+        ensures number { result.number ≡ min (self.number + 1) (2 ^ 64 - 1) }
+        ensures offset { result.offset ≡ min (self.offset + size) (2 ^ 64 - 1) }
     {
-        match header {
-            Header::Datagram(_) => Listed::Datagram,
-            Header::Check(_) => Listed::Check,
+        Position {
+            number: self.number.saturating_add(1),
+            offset: self.offset.saturating_add(size as u64),
         }
     }
+}
 
-    fn word(self) -> &'static str
-        ensures is { result.now ≡ kind_word self }
-        ensures short { length result.now ≤ 20 }
-    {
-        match self {
-            Listed::Datagram => "datagram",
-            Listed::Check => "check",
-            Listed::Refused => "refused",
-        }
+// What a line tells of, as a word.
+fn word(kind: Option<Kind>) -> &'static str
+    ensures is { result.now ≡ kind_word kind }
+    ensures short { length result.now ≤ 20 }
+{
+    match kind {
+        Some(Kind::Datagram) => "datagram",
+        Some(Kind::Check) => "check",
+        None => "refused",
     }
 }
 
 // What every line begins with.
-fn begin(number: u64, offset: u64, size: usize, listed: Listed) -> Line
-    ensures begun { text result ≡ beginning number offset size listed }
-    ensures short { length (text result) ≤ 100 }
+fn beginning_parts(position: Position, size: usize, kind: Option<Kind>) -> [Part; 5]
+    ensures text { flat_map part_text result ≡ beginning position.number position.offset size kind }
+    ensures short { All IsShort result }
 {
-    let mut line = Line::new();
-    put_number(&mut line, number, 7);
-    put_number(&mut line, offset, 9);
-    put_number(&mut line, size as u64, 6);
-    put_word(&mut line, " ", 1);
-    put_word(&mut line, listed.word(), 8);
-    line
+    [
+        Number(position.number, 7),
+        Number(position.offset, 9),
+        Number(size as u64, 6),
+        Word(" ", 1),
+        Word(word(kind), 8),
+    ]
 }
 
 // The address, delta_t and the two boundaries.
-fn put_timing(line: &mut Line, timing: RealTime)
-    requires { length (text line.old) ≤ 100 }
-    ensures added { text line.new ≡ text line.old ++ timing_columns timing }
-    ensures short { length (text line.new) ≤ 180 }
+fn timing_parts(timing: RealTime) -> [Part; 4]
+    ensures text { flat_map part_text result ≡ timing_columns timing }
+    ensures short { All IsShort result }
 {
-    put_number(line, u64::from(timing.address), 8);
-    put_number(line, u64::from(timing.delta_t), 8);
-    put_number(line, u64::from(timing.table_boundary), 3);
-    put_number(line, u64::from(timing.frame_boundary), 3);
-}
-
-// What the header says, and for a datagram its size.
-fn put_header(line: &mut Line, header: Header, size: usize)
-    requires { length (text line.old) ≤ 180 }
-    ensures { text line.new ≡ text line.old ++ header_columns header size }
-{
-    match header {
-        Header::Datagram(datagram) => {
-            put_number(line, u64::from(datagram.version.number()), 3);
-            put_number(line, size as u64, 6);
-        }
-        Header::Check(check) => {
-            put_number(line, u64::from(check.number), 4);
-            put_number(line, u64::from(check.last), 4);
-            put_number(line, u64::from(check.padding_columns), 4);
-        }
-    }
+    [
+        Number(u64::from(timing.address), 8),
+        Number(u64::from(timing.delta_t), 8),
+        Number(u64::from(timing.table_boundary), 3),
+        Number(u64::from(timing.frame_boundary), 3),
+    ]
 }
 
 // The refusal's number, its layer and its place.
-fn put_refusal(line: &mut Line, refusal: Refusal)
-    requires { length (text line.old) ≤ 100 }
-    ensures { text line.new ≡ text line.old ++ refusal_columns refusal }
+fn refusal_parts(refusal: Refusal) -> [Part; 4]
+    ensures text { flat_map part_text result ≡ refusal_columns refusal }
+    ensures short { All IsShort result }
 {
-    put_number(line, u64::from(refusal.number()), 3);
-    put_word(line, " ", 1);
-    put_word(line, refusal.layer().word(), 7);
-    put_number(line, refusal.place(), 9);
+    [
+        Number(u64::from(refusal.number()), 3),
+        Word(" ", 1),
+        Word(refusal.layer().word(), 7),
+        Number(refusal.place(), 9),
+    ]
 }
 
-/// The line of the section with this number, which begins at this offset of its stream, and what the line tells of.
-/// Bytes of any length and content get a line.
-pub fn section_line(number: u64, offset: u64, section: &[u8]) -> (Line, Listed)
-    ensures { Lists number offset section.now result.0 result.1 }
+// What the header says, and for a datagram its size: three parts at most.
+fn put_header(line: &mut Line, header: Header, size: usize)
+    requires { length line.old + 20 * 3 ≤ 256 }
+    ensures { line.new ≡ line.old ++ header_columns header size }
 {
+    match header {
+        Header::Datagram(datagram) => put(
+            line,
+            &[
+                Number(u64::from(datagram.version.number()), 3),
+                Number(size as u64, 6),
+            ],
+        ),
+        Header::Check(check) => put(
+            line,
+            &[
+                Number(u64::from(check.number), 4),
+                Number(u64::from(check.last), 4),
+                Number(u64::from(check.padding_columns), 4),
+            ],
+        ),
+    }
+}
+
+/// The line of the section at this position, and the section's kind, `None` where it is turned away.
+/// Bytes of any length and content get a line.
+pub fn section_line(position: Position, section: &[u8]) -> (Line, Option<Kind>)
+    ensures { Lists position.number position.offset section.now result.0 result.1 }
+{
+    let mut line = Line::new();
     match read(section, ROWS, CHECK_COLUMNS) {
         Ok(fields) => {
-            let listed = Listed::of_header(fields.header);
-            let mut line = begin(number, offset, section.len(), listed);
-            put_timing(&mut line, fields.timing);
+            let kind = Some(fields.header.kind());
+            put(&mut line, &beginning_parts(position, section.len(), kind));
+            put(&mut line, &timing_parts(fields.timing));
             put_header(&mut line, fields.header, fields.payload.len());
-            (line, listed)
+            (line, kind)
         }
         Err(refusal) => {
-            let mut line = begin(number, offset, section.len(), Listed::Refused);
-            put_refusal(&mut line, refusal);
-            (line, Listed::Refused)
+            put(&mut line, &beginning_parts(position, section.len(), None));
+            put(&mut line, &refusal_parts(refusal));
+            (line, None)
         }
     }
 }

@@ -1,27 +1,37 @@
-//! A part of a line is set in columns: at most 20 bytes, so that a line of twelve parts has room for them all.
+//! The parts of a line, each set in columns of its own. A part has at most 20 bytes, so a line has room for twelve.
 
-ghost use Rattle.std.specs.Prelude.{◌≡◌, ◌+◌, ◌≤◌, ◌++◌, length};
-ghost use Rattle.stream.specs.Columns.{right_aligned, left_aligned, text};
+ghost use Rattle.std.specs.Prelude.{◌≡◌, ◌+◌, ◌*◌, ◌≤◌, ◌++◌, length, All, flat_map};
+ghost use Rattle.listing.specs.Parts.{part_text, IsShort};
 
 use stream::columns::Line;
 
-/// Appends the number, right-justified in so many columns.
-pub(super) fn put_number(line: &mut Line, number: u64, columns: usize)
-    requires room { length (text line.old) ≤ 236 }
-    requires small { columns ≤ 20 }
-    ensures added { text line.new ≡ text line.old ++ right_aligned columns number }
-    ensures grown { length (text line.new) ≤ length (text line.old) + 20 }
-{
-    line.decimal(number, columns);
+/// What stands in so many columns: a number on their right side, or a word on their left.
+#[derive(Clone, Copy)]
+pub(super) enum Part {
+    Number(u64, usize),
+    Word(&'static str, usize),
 }
 
-/// Appends the word, left-justified in so many columns.
-pub(super) fn put_word(line: &mut Line, word: &str, columns: usize)
-    requires room { length (text line.old) ≤ 236 }
-    requires small { columns ≤ 20 }
-    requires short { length word.now ≤ 20 }
-    ensures added { text line.new ≡ text line.old ++ left_aligned columns word.now }
-    ensures grown { length (text line.new) ≤ length (text line.old) + 20 }
+/// Appends the parts, one after another.
+pub(super) fn put(line: &mut Line, parts: &[Part])
+    requires short { All IsShort parts.now }
+    requires room { length line.old + 20 * length parts.now ≤ 256 }
+    ensures added { line.new ≡ line.old ++ flat_map part_text parts.now }
+    ensures grown { length line.new ≤ length line.old + 20 * length parts.now }
 {
-    line.word(word, columns);
+    for part in parts {
+        put_part(line, *part);
+    }
+}
+
+fn put_part(line: &mut Line, part: Part)
+    requires short { IsShort part }
+    requires room { length line.old + 20 ≤ 256 }
+    ensures added { line.new ≡ line.old ++ part_text part }
+    ensures grown { length line.new ≤ length line.old + 20 }
+{
+    match part {
+        Part::Number(number, columns) => line.decimal(number, columns).unwrap(),
+        Part::Word(word, columns) => line.word(word, columns).unwrap(),
+    }
 }

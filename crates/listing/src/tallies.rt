@@ -1,15 +1,22 @@
 //! How many sections a listing has, and of what kind.
 
 ghost use Rattle.std.specs.Prelude.{◌≡◌};
-ghost use Rattle.stream.specs.Columns.{text};
-ghost use Rattle.listing.specs.Tallies.{empty_tally, counted, summary_of};
+ghost use Rattle.listing.specs.Tallies.{empty_tally, one_more, counted, summary_of};
 
-use crate::lines::Listed;
-use crate::parts::{put_number, put_word};
+use crate::parts::Part::{Number, Word};
+use crate::parts::put;
+use section::Kind;
 use stream::columns::Line;
 
+// Raises a count by one, unless it is at the top.
+fn raise(count: &mut u64)
+    ensures { count.new ≡ one_more count.old }
+{
+    *count = count.saturating_add(1);
+}
+
 /// How many sections were listed, and how many of each kind.
-#[derive(Clone, Copy, PartialEq, Eq, Debug)]
+#[derive(Clone, Copy, Default, PartialEq, Eq, Debug)]
 pub struct Tally {
     sections: u64,
     datagrams: u64,
@@ -22,39 +29,39 @@ impl Tally {
     pub fn new() -> Tally
         ensures { result ≡ empty_tally }
     {
-        Tally {
-            sections: 0,
-            datagrams: 0,
-            checks: 0,
-            refused: 0,
-        }
+        Tally::default()
     }
 
-    /// Counts one section more. A count that is at the top stays there.
-    pub fn count(&mut self, listed: Listed)
-        ensures { self.new ≡ counted listed self.old }
+    /// Counts one section more, by its kind, or as one that is turned away. A count that is at the top stays there.
+    pub fn count(&mut self, kind: Option<Kind>)
+        ensures { self.new ≡ counted kind self.old }
     {
-        self.sections = self.sections.saturating_add(1);
-        match listed {
-            Listed::Datagram => self.datagrams = self.datagrams.saturating_add(1),
-            Listed::Check => self.checks = self.checks.saturating_add(1),
-            Listed::Refused => self.refused = self.refused.saturating_add(1),
+        raise(&mut self.sections);
+        match kind {
+            Some(Kind::Datagram) => raise(&mut self.datagrams),
+            Some(Kind::Check) => raise(&mut self.checks),
+            None => raise(&mut self.refused),
         }
     }
 
     /// The last line of a listing.
     pub fn summary(&self) -> Line
-        ensures { text result ≡ summary_of self.now }
+        ensures { result ≡ summary_of self.now }
     {
         let mut line = Line::new();
-        put_word(&mut line, "sections ", 0);
-        put_number(&mut line, self.sections, 0);
-        put_word(&mut line, " datagram ", 0);
-        put_number(&mut line, self.datagrams, 0);
-        put_word(&mut line, " check ", 0);
-        put_number(&mut line, self.checks, 0);
-        put_word(&mut line, " refused ", 0);
-        put_number(&mut line, self.refused, 0);
+        put(
+            &mut line,
+            &[
+                Word("sections ", 0),
+                Number(self.sections, 0),
+                Word(" datagram ", 0),
+                Number(self.datagrams, 0),
+                Word(" check ", 0),
+                Number(self.checks, 0),
+                Word(" refused ", 0),
+                Number(self.refused, 0),
+            ],
+        );
         line
     }
 }

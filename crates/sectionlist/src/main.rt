@@ -1,7 +1,7 @@
 //! Lists the sections that lie back to back on standard input: what each says, or why it is turned away.
 #![tactic(auto)]
 
-use listing::{Tally, section_line};
+use listing::{Position, Tally, section_line};
 use program::asked_to_run;
 use std::io;
 use std::io::{BufWriter, Read, Write};
@@ -19,19 +19,32 @@ const HEADING: &str = "#    no   offset     n kind     address delta_t tb fb \
 // A part of the input, as it comes in.
 const CHUNK: usize = 4096;
 
-// Takes what comes next of the input, at most a chunk, into the window, which has room for that;
-// answers whether the input has ended.
-fn read_into(window: &mut Window, input: &mut impl Read, chunk: &mut [u8]) -> io::Result<bool> {
-    let count = input.read(chunk)?;
-    window.append(&chunk[0..count]);
-    Ok(count == 0)
+// The input, of which a window is held at a time.
+#[derive(Drop)]
+struct Source<R> {
+    input: R,
+    window: Window,
+    ended: bool,
 }
 
-// Reads on, as far as the window has room; answers whether the input has ended.
-fn fill(window: &mut Window, input: &mut impl Read) -> io::Result<bool> {
-    let mut chunk = [0; CHUNK];
-    let room = window.room().min(CHUNK);
-    read_into(window, input, &mut chunk[0..room])
+impl<R: Read> Source<R> {
+    fn new(input: R) -> Source<R> {
+        Source {
+            input,
+            window: Window::new(),
+            ended: false,
+        }
+    }
+
+    // Reads on, at most a chunk, as far as the window has room.
+    fn fill(&mut self) -> io::Result<()> {
+        let mut chunk = [0; CHUNK];
+        let room = self.window.room().min(CHUNK);
+        let count = self.input.read(&mut chunk[..room])?;
+        self.window.append(&chunk[..count]);
+        self.ended = count == 0;
+        Ok(())
+    }
 }
 
 fn write_line(out: &mut impl Write, line: &Line) -> io::Result<()> {
@@ -40,33 +53,29 @@ fn write_line(out: &mut impl Write, line: &Line) -> io::Result<()> {
 }
 
 // Lists the sections; answers whether the input goes on behind the last one that is listed.
-fn list(input: &mut impl Read, out: &mut impl Write) -> io::Result<bool> {
-    let mut window = Window::new();
+fn list<R: Read>(source: &mut Source<R>, out: &mut impl Write) -> io::Result<bool> {
     let mut cutter = Cutter::new();
     let mut tally = Tally::new();
-    let mut ended = false;
-    let mut number = 0u64;
-    let mut offset = 0u64;
+    let mut position = Position::default();
     // Each turn cuts a piece or reads on; the count is there only because every loop must be seen to end.
     for _ in 0..u64::MAX {
-        match cutter.next(window.held(), ended) {
+        match cutter.next(source.window.held(), source.ended) {
             Cut::Piece(size) => {
-                let (line, listed) = section_line(number, offset, &window.held()[0..size]);
+                let (line, kind) = section_line(position, &source.window.held()[..size]);
                 write_line(out, &line)?;
-                tally.count(listed);
-                window.release(size);
-                number = number.saturating_add(1);
-                offset = offset.saturating_add(size as u64);
+                tally.count(kind);
+                source.window.release(size);
+                position = position.after(size);
             }
-            Cut::More => ended = fill(&mut window, input)?,
+            Cut::More => source.fill()?,
             Cut::End => break,
         }
     }
     write_line(out, &tally.summary())?;
-    if window.held().is_empty() && !ended {
-        fill(&mut window, input)?;
+    if source.window.held().is_empty() && !source.ended {
+        source.fill()?;
     }
-    Ok(!window.held().is_empty())
+    Ok(!source.window.held().is_empty())
 }
 
 fn run(rt: &HostRuntime) -> anyhow::Result<()> {
@@ -75,7 +84,7 @@ fn run(rt: &HostRuntime) -> anyhow::Result<()> {
     }
     let mut out = BufWriter::new(rt.alloc(), rt.stdout())?;
     writeln!(out, "{HEADING}")?;
-    let goes_on = list(&mut rt.stdin(), &mut out)?;
+    let goes_on = list(&mut Source::new(rt.stdin()), &mut out)?;
     out.flush()?;
     if goes_on {
         rt.eprintln("sectionlist: the input goes on; only its first 20,000 sections are listed")?;

@@ -1,8 +1,10 @@
 -- Where the first piece of a stream ends.
-use Rattle.std.proofs.Common.{◌≡◌, ℕ, zero, suc, ◌+◌, ◌<◌, ◌≤◌, Bool, true, ◌⊎◌, List, [], ◌∷◌, ◌++◌, length, take, drop, sym, refl, ap, ◌∙◌, subst, inl, inr, ⊎_elim, append_assoc, append-nil, arith, length-append}
-use Rattle.std.proofs.lemmas.List.{get_or_append_left, get_or-take, length-take-le, take-append-drop, take_at, drop_at, take_all, drop_all, nil_from_length}
-use Rattle.std.proofs.lemmas.Bool.{and_from, and_left, and_right, and_parts, and_cases, le-leb, lt-leb, leb-true, leb-false, cond-true, cond-false, cases_Bool}
-use Rattle.stream.specs.Cut.{length_told, is_cut, size_of_first, first_piece, after_first, pieces, WholeSection, TooShort, Follows, TellsSize}
+use Rattle.std.proofs.Common.{◌≡◌, ℕ, zero, suc, ◌+◌, ◌<◌, ◌≤◌, Bool, true, false, ◌⊎◌, List, [], ◌∷◌, ◌++◌, length, take, drop, get_or, sym, refl, ap, ◌∙◌, subst, inl, inr, ⊎_elim, append_assoc, append-nil, arith, length-append}
+use mir.Val.{Fits}
+use mir.Syntax.{w8}
+use Rattle.std.proofs.lemmas.List.{get_or_append_left, get_or-take, length-take-le, take-append-drop, take_at, drop_at, take_all, drop_all}
+use Rattle.std.proofs.lemmas.Bool.Decides.{nat_tests}
+use Rattle.stream.specs.Cut.{length_told, size_of_first, first_piece, after_first, pieces, WholeSection, TooShort, Follows, TellsSize}
 
 -- p is the first piece of a stream that goes on with t
 abbrev pub First : List ℕ → List ℕ → Type 0
@@ -13,14 +15,13 @@ same_length : (p t : List ℕ) → 3 ≤ length p → length_told (p ++ t) ≡ l
 same_length p t h = rw (get_or_append_left p t 0 1 (omega arith), get_or_append_left p t 0 2 (omega arith))
 
 short_size : (p : List ℕ) → TooShort p → size_of_first p ≡ length p
-short_size p (inl h) = cond-false (is_cut p) _ _ (and_left _ _ (lt-leb _ _ h))
-short_size p (inr h) = cond-false (is_cut p) _ _ (and_right _ _ (lt-leb _ _ h))
+short_size p h = grind (arith, nat_tests)
 
 first_is : (p t : List ℕ) → First p t → size_of_first (p ++ t) ≡ length p
 first_is p t (inl w) =
     let e = same_length p t w.0 in
     let n = length-append p t in
-    cond-true (is_cut (p ++ t)) _ _ (and_from _ _ (le-leb 3 (length (p ++ t)) (omega arith)) (le-leb (3 + length_told (p ++ t)) (length (p ++ t)) (omega arith))) ∙ omega arith
+    grind (arith, nat_tests)
 first_is p t (inr r) = ap size_of_first (ap (λ (u : List ℕ). p ++ u) r.1 ∙ append-nil p) ∙ short_size p r.0
 
 pieces_some : (k : ℕ) (s : List ℕ) → 0 < length s → pieces (suc k) s ≡ first_piece s ∷ pieces k (after_first s)
@@ -49,21 +50,20 @@ rest_front s t n all none h = inr (subst TooShort (sym (take_all n s all)) h, no
 
 -- a stream that is held as a whole tells the size of its first piece
 pub tells_first : (s : List ℕ) → TellsSize s true (size_of_first s)
-tells_first s =
-    ⊎_elim
-    (λ cut.
-    let parts = and_parts _ _ cut in
-    let size = cond-true (is_cut s) (3 + length_told s) (length s) cut in
-    let fits = leb-true _ _ parts.1 in
-    (omega arith, inl (leb-true _ _ parts.0, size)))
-    (λ short.
-    let size = cond-false (is_cut s) (3 + length_told s) (length s) short in
-    (omega arith, inr (refl, size, ⊎_elim (λ a. inl (leb-false _ _ a)) (λ b. inr (leb-false _ _ b)) (and_cases _ _ short))))
-    (cases_Bool (is_cut s))
+tells_first s = grind (arith, nat_tests)
+
+pub first_some : (s : List ℕ) → 0 < length s → 0 < size_of_first s
+first_some s h = grind (arith, nat_tests)
+
+-- bytes 1 and 2 tell at most 4,095 bytes more
+pub held_short : (held : List ℕ) → ((i : ℕ) → Fits w8 (get_or held i 0)) → TooShort held → length held < 4098
+held_short held bytes (inl few) = omega arith
+held_short held bytes (inr few) = let low = bytes 2 in omega arith
 
 -- nothing follows once the stream has ended
 after_end : (ended : Bool) (more : List ℕ) → ended ≡ true → Follows ended more → more ≡ []
-after_end ended more e f = subst (λ (b : Bool). Follows b more) e f
+after_end true more e f = f
+after_end false more e f = absurd (cc e)
 
 -- Where the bytes held tell the first piece's size, it lies within those held, whatever follows.
 front_held : (held more : List ℕ) (ended : Bool) (n : ℕ) → TellsSize held ended n → Follows ended more → First (take n held) (drop n held ++ more)
@@ -81,13 +81,9 @@ front_cut s =
 
 pub front_some : (s : List ℕ) → 0 < length s → 0 < length (first_piece s)
 front_some s h =
-    ⊎_elim (λ w. let three = w.0 in omega arith)
-    (λ r.
-    let parts = ap length (take-append-drop (size_of_first s) s) in
-    let sum = length-append (first_piece s) (after_first s) in
-    let none = ap length r.1 in
-    omega arith)
-    (front_cut s)
+    let long = length-take-le (size_of_first s) s (tells_first s).0 in
+    let some = first_some s h in
+    omega arith
 
 pub piece_held : (k j n : ℕ) (held more : List ℕ) (ended : Bool) → j + 1 ≡ k → 0 < n → TellsSize held ended n → Follows ended more → pieces k (held ++ more) ≡ take n held ∷ pieces j (drop n held ++ more)
 piece_held k j n held more ended e some told f =
@@ -109,11 +105,9 @@ of_nothing (suc k) = refl
 pub none_held : (k : ℕ) (s : List ℕ) → s ≡ [] → pieces k s ≡ []
 none_held k s e = ap (pieces k) e ∙ of_nothing k
 
--- no piece is left where the bytes held tell that it would be empty
-pub nothing_held : (held : List ℕ) (ended : Bool) (n : ℕ) → TellsSize held ended n → n ≡ 0 → (held ≡ []) × (ended ≡ true)
-nothing_held held ended n told none =
-    ⊎_elim (λ w. absurd (let e = w.1 in omega arith)) (λ r. (nil_from_length held (sym r.1 ∙ none), r.0)) told.1
-
 pub none_follows : (k : ℕ) (held more : List ℕ) (ended : Bool) → (held ≡ []) × (ended ≡ true) → Follows ended more → pieces k (held ++ more) ≡ []
 none_follows k held more ended none f =
     none_held k (held ++ more) (ap (λ (u : List ℕ). u ++ more) none.0 ∙ after_end ended more none.1 f)
+
+-- what one call of `next` tells
+pub ruleset cuts = (held_short, piece_held, none_left, none_follows)

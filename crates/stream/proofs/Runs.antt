@@ -1,7 +1,7 @@
 -- Calls of `next`, one after another, give the pieces of the stream.
-use Rattle.std.proofs.Common.{◌≡◌, ℕ, zero, suc, ◌<◌, true, List, [], ◌∷◌, ◌++◌, length, take, drop, sym, refl, ap, ◌∙◌, subst, inl, inr, ⊎_elim, append-nil, arith}
+use Rattle.std.proofs.Common.{◌≡◌, ℕ, zero, suc, true, List, [], ◌∷◌, ◌++◌, take, drop, sym, refl, ap, ◌∙◌, subst, inl, inr, append-nil, arith}
 use Rattle.stream.specs.Cut.{size_of_first, after_first, pieces, Run, gives, waits, ends, RunLaw}
-use Rattle.stream.proofs.Fronts.{tells_first, piece_held, none_left, none_follows}
+use Rattle.stream.proofs.Fronts.{tells_first, first_some, piece_held, none_left, none_follows}
 
 gives_pieces : (k : ℕ) (s : List ℕ) (ps : List (List ℕ)) → Run k s ps → ps ≡ pieces k s
 gives_pieces _ _ _ (gives k j n held more ended rest follows cuts run) =
@@ -9,9 +9,6 @@ gives_pieces _ _ _ (gives k j n held more ended rest follows cuts run) =
 gives_pieces _ _ _ (waits k j held more ended ps follows cuts run) =
     gives_pieces j (held ++ more) ps run ∙ ap (λ (i : ℕ). pieces i (held ++ more)) cuts.0
 gives_pieces _ _ _ (ends k j held more ended follows cuts) = sym (cuts.2 more follows)
-
-first_some : (s : List ℕ) → 0 < length s → 0 < size_of_first s
-first_some s h = ⊎_elim (λ w. let size = w.1 in omega arith) (λ r. let size = r.1 in omega arith) (tells_first s).1
 
 whole : (k : ℕ) (s : List ℕ) (ps : List (List ℕ)) → Run k (s ++ []) ps → Run k s ps
 whole k s ps run = subst (λ (t : List ℕ). Run k t ps) (append-nil s) run

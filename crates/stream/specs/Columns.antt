@@ -1,6 +1,5 @@
 -- Text that is set in columns.
-use Rattle.std.specs.Prelude.{ℕ, ◌-◌, List, ◌++◌, length, take, replicate, decimal}
-use Rattle.stream.specs.declared.columns.layout.Line.{Line}
+use Rattle.std.specs.Prelude.{ℕ, ◌-◌, List, ◌++◌, length, replicate, decimal}
 
 -- blanks, then the number in decimal
 abbrev pub right_aligned : (columns number : ℕ) → List ℕ
@@ -9,7 +8,3 @@ right_aligned columns number = replicate (columns - length (decimal number)) 32 
 -- the word, then blanks
 abbrev pub left_aligned : (columns : ℕ) (word : List ℕ) → List ℕ
 left_aligned columns word = word ++ replicate (columns - length word) 32
-
--- what a line holds so far
-abbrev pub text : Line → List ℕ
-text line = take line.len line.bytes

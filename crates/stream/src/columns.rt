@@ -1,108 +1,109 @@
 //! Numbers and words are set in columns.
 
-ghost use Rattle.std.specs.Prelude.{◌≡◌, ◌+◌, true, false, [], ◌++◌, length, decimal, nat_le};
-ghost use Rattle.stream.specs.Columns.{right_aligned, left_aligned, text};
+ghost use Rattle.std.specs.Prelude.{◌≡◌, ◌+◌, ◌≤◌, ◌↔◌, [], ◌++◌, length, replicate, decimal, IsOk, OnOk, OnErr};
+ghost use Rattle.stream.specs.Columns.{right_aligned, left_aligned};
 
-pub use layout::Line;
-use layout::ROOM;
+use arrayvec::{ArrayVec, CapacityError};
+use itoa::Buffer;
+use std::marker::Model;
 
-mod layout;
+/// How many bytes a line has room for.
+const ROOM: usize = 256;
 
-/// Writes the number in decimal over the whole field, right-justified with blanks before it.
-/// Answers whether its digits fit; where they do not, the field stays as it was.
-pub fn right_justified(number: u64, field: &mut [u8]) -> bool
-    ensures fits { result ≡ nat_le (length (decimal number)) (length field.old) }
-    ensures written { result ≡ true → field.new ≡ right_aligned (length field.old) number }
-    ensures kept { result ≡ false → field.new ≡ field.old }
+static BLANKS: [u8; ROOM] = [b' '; ROOM];
+
+// So many blanks.
+fn blank(count: usize) -> &'static [u8]
+    requires { count ≤ 256 }
+    ensures { result.now ≡ replicate count 32 }
 {
-    let count = digits(number);
-    if count > field.len() {
-        return false;
-    }
-    let mut rest = number;
-    let mut at = field.len() - 1;
-    while rest >= 10 {
-        field[at] = b'0' + (rest % 10) as u8;
-        rest /= 10;
-        at -= 1;
-    }
-    field[at] = b'0' + rest as u8;
-    field[0..at].fill(b' ');
-    true
+    &BLANKS[..count]
 }
 
-/// How many digits the number has in decimal.
-fn digits(number: u64) -> usize
-    ensures { result ≡ length (decimal number) }
+/// Writes the number in decimal over the whole field, right-justified with blanks before it.
+/// Where its digits do not fit, the field stays as it was.
+pub fn right_justified(number: u64, field: &mut [u8]) -> Result<(), CapacityError>
+    ensures fits { IsOk result ↔ (length (decimal number) ≤ length field.old) }
+    ensures written { OnOk result (field.new ≡ right_aligned (length field.old) number) }
+    ensures kept { OnErr result (field.new ≡ field.old) }
 {
-    let mut rest = number;
-    let mut count = 1;
-    while rest >= 10 {
-        rest /= 10;
-        count += 1;
+    let mut buffer = Buffer::new();
+    let digits = buffer.format(number).as_bytes();
+    if digits.len() > field.len() {
+        return Err(CapacityError::new(()));
     }
-    count
+    let blanks = field.len() - digits.len();
+    field[..blanks].fill(b' ');
+    field[blanks..].copy_from_slice(digits);
+    Ok(())
+}
+
+/// A line of text that is built up from left to right.
+#[derive(Default, Drop)]
+pub struct Line {
+    text: ArrayVec<u8, ROOM>,
+}
+
+// Clauses see the text so far.
+impl Model for Line {
+    ghost use Rattle.std.specs.Prelude.{ℕ, List};
+
+    ghost Value = { List ℕ };
+
+    ghost view = { λ line. line.text.items };
 }
 
 impl Line {
     /// A line with nothing in it.
     pub fn new() -> Line
-        ensures { text result ≡ [] }
+        ensures { result ≡ [] }
     {
-        Line {
-            bytes: [b' '; ROOM],
-            len: 0,
-        }
+        Line::default()
     }
 
     /// The text so far.
     pub fn as_bytes(&self) -> &[u8]
-        ensures { result.now ≡ text self.now }
+        ensures text { result.now ≡ self.now }
+        ensures within { length result.now ≤ 256 }
     {
-        &self.bytes[0..self.len]
-    }
-
-    // Whether so many bytes more fit the line.
-    fn has_room(&self, width: usize) -> bool
-        ensures { result ≡ nat_le (self.now.len + width) 256 }
-    {
-        width <= ROOM - self.len
+        self.text.as_slice()
     }
 
     /// Appends the number, with blanks before it up to so many columns where it has fewer digits.
-    /// Answers whether that fits the line; where not, the text stays as it was.
-    pub fn decimal(&mut self, number: u64, columns: usize) -> bool
-        ensures fits { result ≡ nat_le (length (text self.old) + length (right_aligned columns number)) 256 }
-        ensures written { result ≡ true → text self.new ≡ text self.old ++ right_aligned columns number }
-        ensures kept { result ≡ false → text self.new ≡ text self.old }
+    /// Where that does not fit the line, the text stays as it was. No number has more than 20 digits.
+    pub fn decimal(&mut self, number: u64, columns: usize) -> Result<(), CapacityError>
+        ensures fits { IsOk result ↔ (length self.old + length (right_aligned columns number) ≤ 256) }
+        ensures written { OnOk result (self.new ≡ self.old ++ right_aligned columns number) }
+        ensures kept { OnErr result (self.new ≡ self.old) }
+        ensures few_digits { length (decimal number) ≤ 20 }
     {
-        let width = columns.max(digits(number));
-        if !self.has_room(width) {
-            return false;
-        }
-        let end = self.len + width;
-        // The field is wide enough for the digits.
-        right_justified(number, &mut self.bytes[self.len..end]);
-        self.len = end;
-        true
+        let mut buffer = Buffer::new();
+        let digits = buffer.format(number).as_bytes();
+        self.append(columns.saturating_sub(digits.len()), digits, 0)
     }
 
     /// Appends the word, with blanks after it up to so many columns where it has fewer bytes.
-    /// Answers whether that fits the line; where not, the text stays as it was.
-    pub fn word(&mut self, word: &str, columns: usize) -> bool
-        ensures fits { result ≡ nat_le (length (text self.old) + length (left_aligned columns word.now)) 256 }
-        ensures written { result ≡ true → text self.new ≡ text self.old ++ left_aligned columns word.now }
-        ensures kept { result ≡ false → text self.new ≡ text self.old }
+    /// Where that does not fit the line, the text stays as it was.
+    pub fn word(&mut self, word: &str, columns: usize) -> Result<(), CapacityError>
+        ensures fits { IsOk result ↔ (length self.old + length (left_aligned columns word.now) ≤ 256) }
+        ensures written { OnOk result (self.new ≡ self.old ++ left_aligned columns word.now) }
+        ensures kept { OnErr result (self.new ≡ self.old) }
     {
-        let width = columns.max(word.len());
-        if !self.has_room(width) {
-            return false;
+        self.append(0, word.as_bytes(), columns.saturating_sub(word.len()))
+    }
+
+    // Appends the text with so many blanks before and behind it, or nothing where that does not fit the line.
+    fn append(&mut self, before: usize, text: &[u8], behind: usize) -> Result<(), CapacityError>
+        ensures fits { IsOk result ↔ (length self.old + before + length text.now + behind ≤ 256) }
+        ensures written { OnOk result (self.new ≡ self.old ++ replicate before 32 ++ text.now ++ replicate behind 32) }
+        ensures kept { OnErr result (self.new ≡ self.old) }
+    {
+        let width = before.saturating_add(text.len()).saturating_add(behind);
+        if width > self.text.remaining_capacity() {
+            return Err(CapacityError::new(()));
         }
-        let blank = self.len + word.len();
-        let end = self.len + width;
-        self.bytes[self.len..blank].copy_from_slice(word.as_bytes());
-        self.bytes[blank..end].fill(b' ');
-        self.len += width;
-        true
+        self.text.try_extend_from_slice(blank(before))?;
+        self.text.try_extend_from_slice(text)?;
+        self.text.try_extend_from_slice(blank(behind))
     }
 }

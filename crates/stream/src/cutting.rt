@@ -1,7 +1,9 @@
 //! Sections are cut off a stream of bytes, of which a window is held at a time.
 
-ghost use Rattle.std.specs.Prelude.{◌≡◌, ◌+◌, ◌<◌, ◌≤◌, false, length, MatchOption};
+ghost use Rattle.std.specs.Prelude.{◌≡◌, ℕ, ◌+◌, ◌<◌, ◌≤◌, true, false, [], length, MatchOption};
 ghost use Rattle.stream.specs.Cut.{length_told, TooShort, TellsSize, Cuts, PiecesLaw, RunLaw};
+
+use octets::section_length;
 
 /// At most so many pieces are cut off a stream.
 const MOST_PIECES: usize = 20_000;
@@ -35,6 +37,7 @@ impl Cutter {
     }
 
     /// The next piece of the stream that begins with the bytes held, and ends with them where it has `ended`.
+    #[tactic(auto, using(crate::proofs::Fronts::cuts))]
     pub fn next(&mut self, held: &[u8], ended: bool) -> Cut
         ensures cuts { Cuts held.now ended self.old.left self.new.left result }
         ensures window { result ≡ Cut.More → length held.now < 4098 }
@@ -42,37 +45,37 @@ impl Cutter {
         if self.left == 0 {
             return Cut::End;
         }
-        match first_size(held, ended) {
-            None => Cut::More,
-            Some(0) => Cut::End,
-            Some(size) => {
-                self.left -= 1;
-                Cut::Piece(size)
-            }
+        let cut = first_cut(held, ended);
+        if let Cut::Piece(_) = cut {
+            self.left -= 1;
         }
+        cut
     }
 }
 
-/// How many bytes the first piece has, 0 where there is none, as far as the bytes held tell.
-fn first_size(held: &[u8], ended: bool) -> Option<usize>
-    ensures { MatchOption result ((ended ≡ false) × TooShort held.now × (length held.now < 4098)) (λ size. TellsSize held.now ended size) }
+// What stands at the front of the bytes held, as far as they tell.
+fn first_cut(held: &[u8], ended: bool) -> Cut
+    ensures piece { (size : ℕ) → result ≡ Cut.Piece size → (0 < size) × TellsSize held.now ended size }
+    ensures more { result ≡ Cut.More → (ended ≡ false) × TooShort held.now }
+    ensures end { result ≡ Cut.End → (held.now ≡ []) × (ended ≡ true) }
 {
     match whole_section(held) {
-        Some(size) => Some(size),
-        None if ended => Some(held.len()),
-        None => None,
+        Some(size) => Cut::Piece(size),
+        None if !ended => Cut::More,
+        None if held.is_empty() => Cut::End,
+        None => Cut::Piece(held.len()),
     }
 }
 
-/// How many bytes the section at the front has, where it is held as a whole.
+// How many bytes the section at the front has, where it is held as a whole.
 fn whole_section(held: &[u8]) -> Option<usize>
     ensures { MatchOption result
-        (TooShort held.now × (length held.now < 4098))
+        (TooShort held.now)
         (λ size. (3 ≤ length held.now) × (size ≤ length held.now) × (size ≡ 3 + length_told held.now)) }
 {
     let [_, high, low, ..] = held else {
         return None;
     };
-    let size = 3 + usize::from(*high % 16) * 256 + usize::from(*low);
+    let size = 3 + usize::from(section_length(*high, *low));
     if size <= held.len() { Some(size) } else { None }
 }

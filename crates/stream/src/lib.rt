@@ -37,20 +37,20 @@ mod tests {
     #[test]
     fn sets_numbers_right(rt: HostRuntime) {
         let mut field = *b"......";
-        assert!(rt; right_justified(90, &mut field));
+        assert!(rt; right_justified(90, &mut field).is_ok());
         assert!(rt; field == *b"    90");
-        assert!(rt; !right_justified(1_234_567, &mut field));
+        assert!(rt; right_justified(1_234_567, &mut field).is_err());
         assert!(rt; field == *b"    90");
     }
 
     #[test]
     fn builds_a_line(rt: HostRuntime) {
         let mut line = Line::new();
-        assert!(rt; line.word("bursts", 8));
-        assert!(rt; line.decimal(17, 5));
-        assert!(rt; line.decimal(100_000, 5));
-        assert!(rt; !line.word("", 238));
-        assert!(rt; !line.decimal(0, 238));
+        assert!(rt; line.word("bursts", 8).is_ok());
+        assert!(rt; line.decimal(17, 5).is_ok());
+        assert!(rt; line.decimal(100_000, 5).is_ok());
+        assert!(rt; line.word("", 238).is_err());
+        assert!(rt; line.decimal(0, 238).is_err());
         assert!(rt; line.as_bytes() == b"bursts     17100000".as_slice());
     }
 }

@@ -1,56 +1,66 @@
 //! A window on a stream: bytes come in at its end and leave at its front.
 
-ghost use Rattle.std.specs.Prelude.{◌≡◌, ◌-◌, min, [], ◌++◌, length, take, drop};
-ghost use Rattle.stream.specs.Windows.{held_in};
+ghost use Rattle.std.specs.Prelude.{◌≡◌, ◌-◌, ◌≤◌, min, [], ◌++◌, length, take, drop};
 
-use layout::ROOM;
-pub use layout::Window;
+use arrayvec::ArrayVec;
+use std::marker::Model;
 
-mod layout;
+/// How many bytes a window has room for: as many as the longest piece that bytes 1 and 2 can tell.
+const ROOM: usize = 4098;
+
+/// The part of a stream that is held at a time.
+#[derive(Default, Drop)]
+pub struct Window {
+    bytes: ArrayVec<u8, ROOM>,
+}
+
+// Clauses see the bytes that are held.
+impl Model for Window {
+    ghost use Rattle.std.specs.Prelude.{ℕ, List};
+
+    ghost Value = { List ℕ };
+
+    ghost view = { λ window. window.bytes.items };
+}
 
 impl Window {
     /// A window with nothing in it.
     pub fn new() -> Window
-        ensures { held_in result ≡ [] }
+        ensures { result ≡ [] }
     {
-        Window {
-            bytes: [0; ROOM],
-            len: 0,
-        }
+        Window::default()
     }
 
     /// The bytes that are held.
     pub fn held(&self) -> &[u8]
-        ensures { result.now ≡ held_in self.now }
+        ensures held { result.now ≡ self.now }
+        ensures within { length result.now ≤ 4098 }
     {
-        &self.bytes[0..self.len]
+        self.bytes.as_slice()
     }
 
     /// How many bytes more there is room for: 4,098 less those held.
     pub fn room(&self) -> usize
-        ensures { result ≡ 4098 - length (held_in self.now) }
+        ensures { result ≡ 4098 - length self.now }
     {
-        ROOM - self.len
+        self.bytes.remaining_capacity()
     }
 
     /// Takes in the bytes that come next, as many of them as there is room for, and answers how many these are.
     pub fn append(&mut self, more: &[u8]) -> usize
-        ensures count { result ≡ min (length more.now) (4098 - length (held_in self.old)) }
-        ensures after { held_in self.new ≡ held_in self.old ++ take result more.now }
+        ensures count { result ≡ min (length more.now) (4098 - length self.old) }
+        ensures after { self.new ≡ self.old ++ take result more.now }
     {
-        let count = more.len().min(ROOM - self.len);
-        let end = self.len + count;
-        self.bytes[self.len..end].copy_from_slice(&more[0..count]);
-        self.len = end;
+        let count = more.len().min(self.bytes.remaining_capacity());
+        self.bytes.try_extend_from_slice(&more[..count]).unwrap();
         count
     }
 
     /// Lets go of so many bytes at the front, of all where fewer are held.
     pub fn release(&mut self, count: usize)
-        ensures { held_in self.new ≡ drop count (held_in self.old) }
+        ensures { self.new ≡ drop count self.old }
     {
-        let count = count.min(self.len);
-        self.bytes[0..self.len].rotate_left(count);
-        self.len -= count;
+        let count = count.min(self.bytes.len());
+        self.bytes.drain(..count);
     }
 }

@@ -1,7 +1,9 @@
-use Rattle.std.proofs.Common.{refl}
 use Rattle.stream.proofs.Pieces.{pieces_law}
 use Rattle.stream.proofs.Runs.{run_law}
 use Rattle.stream.proofs.cutting.Cutter.new.Goals as goal
 
-pub returns : goal.returns
-returns c = record { full = refl; law = pieces_law; runs = run_law }
+pub returns-clause-law : goal.returns-clause-law
+returns-clause-law c = pieces_law
+
+pub returns-clause-runs : goal.returns-clause-runs
+returns-clause-runs c = run_law
