@@ -1,7 +1,7 @@
 -- The header and the payload, written from the fields that were read, are alike to those of the section.
-use Rattle.std.proofs.Common.{◌≡◌, ℕ, ◌+◌, ◌-◌, ◌/◌, ◌%◌, List, [], ◌∷◌, ◌++◌, length, drop, sym, refl, ap, ◌∙◌, subst, arith}
+use Rattle.std.proofs.Common.{◌≡◌, ℕ, ◌+◌, ◌-◌, ◌/◌, ◌%◌, List, [], ◌∷◌, ◌++◌, length, drop, sym, refl, ◌∙◌, subst, arith, rules}
 use Rattle.std.proofs.lemmas.List.{length-take, length-drop, get_or-take, get_or-drop}
-use Rattle.octets.specs.Octets.{Bytes, byte, word32}
+use Rattle.octets.specs.Octets.{Bytes, byte}
 use Rattle.crc32.specs.Crc.{big_endian}
 use Rattle.section.specs.declared.reading.Header.{Header}
 use Rattle.section.specs.declared.reading.Header.TheVariants.{Datagram, Check}
@@ -33,7 +33,7 @@ module _ {R m : ℕ} {s : List ℕ} (bytes : Bytes s) (p : Passed R m s) where
       let b_10 = bytes 10 (omega arith) in
       let b_11 = bytes 11 (omega arith) in
       let again : big_endian (real_time_word (timing_of s)) ≡ byte s 8 ∷ byte s 9 ∷ byte s 10 ∷ byte s 11 ∷ []
-      = ap big_endian (side_by_side (word32 s 8)) ∙ word_bytes (byte s 8) (byte s 9) (byte s 10) (byte s 11) b_8 b_9 b_10 b_11 in
+      = search (rules, side_by_side, word_bytes) in
       subst (λ ws. Alikes (byte s 0) 8 (ws ++ payload_of s) s) (sym again)
       (in_front (alike_same refl b_8) (in_front (alike_same refl b_9) (in_front (alike_same refl b_10) (in_front (alike_same refl b_11) payload_alikes))))
 
