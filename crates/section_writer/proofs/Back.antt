@@ -37,8 +37,8 @@ behind (Check h) t payload = refl
 
 payload_back : (h : Header) (t : RealTime) (payload : List ℕ) → payload_of (written h t payload) ≡ payload
 payload_back h t payload =
-    let n : length (written h t payload) - 16 ≡ length payload = let e = written_length h t payload in omega arith in
-    rw (n, behind h t payload) (take_at payload _ (length payload) refl)
+    let n : length (written h t payload) - 16 ≡ length payload = omega (arith, written_length h t payload) in
+    rw (n, behind h t payload, take_at)
 
 timing_back : (h : Header) (t : RealTime) (payload : List ℕ) → t.delta_t < 2 ^ 12 → t.address < 2 ^ 18 → timing_of (written h t payload) ≡ t
 unfolding written
