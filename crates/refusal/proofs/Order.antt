@@ -1,5 +1,5 @@
 -- The order of rules: a list of rules answers as `first` of it does, and so settles a call.
-use Rattle.std.proofs.Common.{◌≡◌, ℕ, zero, suc, ◌<◌, Bool, true, false, not, ◌⊎◌, List, [], ◌∷◌, ◌++◌, get_or, Some, None, Ok, Err, Result, refl, inl, inr, suc-le-suc, zero-le, le_of_suc-le-suc, arith}
+use Rattle.std.proofs.Common.{◌≡◌, ℕ, zero, suc, ◌<◌, Bool, true, false, not, ◌⊎◌, List, [], ◌∷◌, ◌++◌, get_or, Some, None, Ok, Err, Result, refl, ◌∙◌, inl, inr, suc-le-suc, zero-le, le_of_suc-le-suc, arith}
 use Rattle.refusal.specs.declared.Refusal.{Refusal}
 use Rattle.refusal.specs.Rules.{Verdict, when, or_else, first, Refused, Passes, Answers, Obeys, Settles}
 
@@ -48,7 +48,11 @@ first_refuses (None ∷ rules) e some =
     let later = first_refuses rules e some in
     record { at = suc later.at; gives = later.gives; before = none_before rules later.at later.before }
 
--- and conversely
+-- a refusal by the rules in front
+pub refused_front : (front back : List Verdict) {e : Refusal} → first front ≡ Some e → Refused (front ++ back) e
+refused_front front back {e} some = first_refuses _ e (first_append front back ∙ rw some)
+
+-- the first rule that fits is the one that refuses
 refused_at : (rules : List Verdict) (e : Refusal) (at : ℕ) → get_or rules at None ≡ Some e → ((k : ℕ) → k < at → get_or rules k None ≡ None) → first rules ≡ Some e
 refused_at [] e at gives before = gives
 refused_at (rule ∷ rules) e zero gives before = rw gives

@@ -1,6 +1,6 @@
 -- Bytes that are alike: what is written at a place, and what was read there, agree in every bit that is read.
 use Rattle.std.proofs.Common.{◌≡◌, ℕ, zero, suc, ◌+◌, ◌%◌, ◌<◌, Bool, true, false, not, ◌&&◌, ◌||◌, List, ◌∷◌, length, ⊎_elim, le_of_suc-le-suc, add-zero, add-suc, suc-add, refl, sym, ◌∙◌, arith, lit<}
-use Rattle.std.proofs.lemmas.Bool.{true≢false, cases_Bool, and_from, and_parts, not_from_false, agree_below, agree_below_at}
+use Rattle.std.proofs.lemmas.Bool.{true≢false, cases_Bool, and_parts, agree_below, agree_below_at}
 use Rattle.std.proofs.Math.Bool.{beq, or-false}
 use Rattle.std.specs.Cmp.{booleans_Decides}
 use Rattle.octets.specs.Octets.{byte, bit}
@@ -44,7 +44,7 @@ alike_4_check b = record { written = lit< tt; bits = λ k h read. absurd (true�
 -- a datagram section's byte 5 is all read, and an MPE-FEC section's only in the bits that must be 1
 pub alike_5_datagram : (b : ℕ) → b < 256 → markers_5 b ≡ true → scrambled_or_wrapped b ≡ false → Alike (table_id_of Datagram) 5 0xC1 b
 alike_5_datagram b h marked plain =
-    alike_tested (table_id_of Datagram) 5 (λ b. 0xC1) (λ b. markers_5 b && not (scrambled_or_wrapped b)) refl b h (and_from _ _ marked (not_from_false _ plain)) (lit< tt)
+    alike_tested (table_id_of Datagram) 5 (λ b. 0xC1) (λ b. markers_5 b && not (scrambled_or_wrapped b)) refl b h (rw (marked, plain)) (lit< tt)
 
 pub alike_5_check : (b : ℕ) → b < 256 → markers_5 b ≡ true → Alike (table_id_of Check) 5 0xFF b
 alike_5_check b h marked = alike_tested (table_id_of Check) 5 (λ b. 0xFF) markers_5 refl b h marked (lit< tt)

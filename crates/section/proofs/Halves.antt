@@ -1,16 +1,16 @@
 -- The two halves of reading a section joined: its envelope (4 to 9), then its content (10 and 11).
-use Rattle.std.proofs.Common.{◌≡◌, ℕ, ◌-◌, List, [], ◌∷◌, length, take, drop, Some, None, Result, ◌∙◌, arith}
+use Rattle.std.proofs.Common.{◌≡◌, ℕ, ◌-◌, List, [], ◌∷◌, length, take, drop, None, Result, arith}
 use Rattle.octets.specs.Octets.{byte}
 use Rattle.refusal.specs.declared.Refusal.{Refusal}
-use Rattle.refusal.specs.Rules.{Verdict, first, Refused, Answers, Obeys}
-use Rattle.refusal.proofs.Order.{answers_first, first_append, first_refuses}
+use Rattle.refusal.specs.Rules.{Verdict, first, Answers, Obeys}
+use Rattle.refusal.proofs.Order.{answers_first, first_append}
 use Rattle.section.specs.declared.reading.Section.{Section}
 use Rattle.section.specs.declared.timing.RealTime.{RealTime}
 use Rattle.section.specs.Kinds.{table_rule}
 use Rattle.section.specs.Rules.{size_rule, length_rule, marker_rule, plain_rule, crc_rule, field_rule, payload_rule, read_rules}
 use Rattle.section.specs.Sections.{payload_of, timing_of, SectionOf}
 
-abbrev envelope : List ℕ → List Verdict
+abbrev pub envelope : List ℕ → List Verdict
 envelope s =
     size_rule (length s) ∷ table_rule (byte s 0) ∷ length_rule (byte s 1) (byte s 2) (length s) ∷ marker_rule (byte s 1) (byte s 5)
     ∷ plain_rule (byte s 0) (byte s 5) ∷ crc_rule s ∷ []
@@ -18,10 +18,6 @@ envelope s =
 abbrev content : (R m id address : ℕ) → List ℕ → List ℕ → List Verdict
 content R m id address s payload =
     field_rule R m id (byte s 3) (byte s 6) (byte s 7) address (length payload) ∷ payload_rule id payload ∷ []
-
-pub envelope_refused : (R m : ℕ) (s : List ℕ) (e : Refusal) → first (envelope s) ≡ Some e → Refused (read_rules R m s) e
-envelope_refused R m s e some =
-    first_refuses _ e (first_append (envelope s) (content R m (byte s 0) (timing_of s).address s (payload_of s)) ∙ rw some)
 
 -- the content's rules, worked out from what the code has at hand, are those of the section
 pub content_answers : (R m : ℕ) (s : List ℕ) (id : ℕ) (timing : RealTime) (payload : List ℕ) (r : Result Section Refusal) → first (envelope s) ≡ None → id ≡ byte s 0 → timing ≡ timing_of s → payload ≡ payload_of s → Obeys (first (content R m id timing.address s payload)) (SectionOf s) r → Answers (read_rules R m s) (SectionOf s) r

@@ -1,4 +1,3 @@
-pub mod RealTimes
 pub mod Masks
 pub mod Halves
 pub mod Columns

@@ -1,5 +1,5 @@
 -- The header and the payload, written from the fields that were read, are alike to those of the section.
-use Rattle.std.proofs.Common.{◌≡◌, ℕ, ◌+◌, ◌-◌, ◌/◌, ◌%◌, List, [], ◌∷◌, ◌++◌, length, drop, sym, refl, ap, ◌∙◌, subst, arith}
+use Rattle.std.proofs.Common.{◌≡◌, ℕ, ◌+◌, ◌-◌, ◌/◌, ◌%◌, List, [], ◌∷◌, ◌++◌, length, drop, sym, refl, ◌∙◌, subst, arith, rules}
 use Rattle.std.proofs.lemmas.List.{length-take, length-drop, get_or-take, get_or-drop}
 use Rattle.octets.specs.Octets.{Bytes, byte, word32}
 use Rattle.crc32.specs.Crc.{big_endian}
@@ -9,7 +9,6 @@ use Rattle.section.specs.Kinds.{table_id_of}
 use Rattle.section.specs.RealTimes.{real_time_word}
 use Rattle.section.specs.Sections.{payload_of, timing_of, HeaderIn}
 use Rattle.section.specs.Layout.{kind_of, bytes_of_kind, header_bytes}
-use Rattle.section.proofs.RealTimes.{side_by_side}
 use Rattle.crc32.proofs.Words.{word_bytes}
 use Rattle.section.proofs.Alike.{Alikes, in_front, alike_same, alike_1, alike_4_check, alike_5_datagram, alike_5_check}
 use Rattle.section.proofs.Passed.{Passed}
@@ -25,15 +24,16 @@ module _ {R m : ℕ} {s : List ℕ} (bytes : Bytes s) (p : Passed R m s) where
         alike_same (get_or-take (length s - 16) (drop 12 s) k 0 (omega arith) ∙ get_or-drop 12 s k 0) (bytes (12 + k) (omega arith));
   }
 
-  -- from byte 8 on
+  -- from byte 8 on: the fields side by side are the number that they were read from
   timing_alikes : Alikes (byte s 0) 8 (big_endian (real_time_word (timing_of s)) ++ payload_of s) s
   timing_alikes =
       let b_8 = bytes 8 (omega arith) in
       let b_9 = bytes 9 (omega arith) in
       let b_10 = bytes 10 (omega arith) in
       let b_11 = bytes 11 (omega arith) in
+      let word : real_time_word (timing_of s) ≡ word32 s 8 = search rules in
       let again : big_endian (real_time_word (timing_of s)) ≡ byte s 8 ∷ byte s 9 ∷ byte s 10 ∷ byte s 11 ∷ []
-      = ap big_endian (side_by_side (word32 s 8)) ∙ word_bytes (byte s 8) (byte s 9) (byte s 10) (byte s 11) b_8 b_9 b_10 b_11 in
+      = search (rules, word_bytes) in
       subst (λ ws. Alikes (byte s 0) 8 (ws ++ payload_of s) s) (sym again)
       (in_front (alike_same refl b_8) (in_front (alike_same refl b_9) (in_front (alike_same refl b_10) (in_front (alike_same refl b_11) payload_alikes))))
 

@@ -7,7 +7,7 @@ use Rattle.refusal.specs.Rules.{Passes}
 use Rattle.refusal.proofs.Order.{first_passes}
 use Rattle.section.specs.declared.reading.Header.{Header}
 use Rattle.section.specs.declared.reading.Header.TheVariants.{Datagram, Check}
-use Rattle.section.specs.Writing.{write_field_rule, write_payload_rule, unwritable_rule, write_rules}
+use Rattle.section.specs.Writing.{write_field_rule, write_payload_rule, write_rules}
 use Rattle.section.specs.Sections.{payload_of, timing_of, HeaderIn}
 use Rattle.section.proofs.Columns.{column_split}
 use Rattle.section.proofs.Passed.{Passed}
@@ -26,8 +26,5 @@ module _ {R m : ℕ} {s : List ℕ} (bytes : Bytes s) (p : Passed R m s) where
   payload_passes (Datagram h) of = rw of.3
   payload_passes (Check h) of = refl
 
-  room_passes : unwritable_rule 4096 (timing_of s).delta_t ≡ None
-  room_passes = rw (le-ltb 4095 (timing_of s).delta_t (omega arith))
-
   pub writable : (h : Header) → HeaderIn s h → Passes (write_rules R m h (timing_of s) (payload_of s) 4096)
-  writable h of = first_passes _ (rw (field_passes h of, payload_passes h of, room_passes))
+  writable h of = first_passes _ (rw (field_passes h of, payload_passes h of, le-ltb 4095 (timing_of s).delta_t (omega arith)))

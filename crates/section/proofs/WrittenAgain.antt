@@ -28,9 +28,6 @@ module _ {R m : ℕ} {s : List ℕ} (bytes : Bytes s) (p : Passed R m s) (h : He
   front_length : length (before_crc s h) + 4 ≡ length s
   front_length = omega (arith, message_length h (timing_of s) (payload_of s), payload_length bytes p)
 
-  size : length (again s h) ≡ length s
-  size = written_length h (timing_of s) (payload_of s) ∙ payload_length bytes p
-
   alike : HeaderIn s h → (k : ℕ) → k + 4 < length s → Alike (byte s 0) k (byte (again s h) k) (byte s k)
   alike of k l =
       let n : k < length (before_crc s h) = omega (arith, front_length) in
@@ -62,7 +59,7 @@ written_again R m s x bytes passes of =
     let h = x.header in
     record {
       writable = rw (of.timing, of.payload) (writable bytes p h of.header);
-      size = rw (of.timing, of.payload) (size bytes p h);
+      size = rw (of.timing, of.payload) (written_length h (timing_of s) (payload_of s) ∙ payload_length bytes p);
       bits = λ k b l j read. rw (of.timing, of.payload) ((alike bytes p h of.header k l).bits b j read);
       same = rw (of.timing, of.payload) (same bytes p h of.header);
     }

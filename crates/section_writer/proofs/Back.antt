@@ -1,5 +1,5 @@
 -- What is written from fields that can be written is read back to the same fields.
-use Rattle.std.proofs.Common.{◌≡◌, ℕ, ◌+◌, ◌-◌, ◌*◌, ◌/◌, ◌%◌, ◌^◌, ◌<◌, ◌≤◌, true, eqb, List, ◌++◌, length, drop, None, Ok, Err, sym, subst, refl, ap, ◌∙◌, arith, rules}
+use Rattle.std.proofs.Common.{◌≡◌, ℕ, ◌+◌, ◌-◌, ◌*◌, ◌/◌, ◌%◌, ◌^◌, ◌<◌, true, eqb, List, ◌++◌, length, drop, None, Ok, Err, sym, subst, refl, ap, ◌∙◌, arith, rules}
 use Rattle.std.proofs.lemmas.List.{take_at}
 use Rattle.std.proofs.lemmas.Bool.{and_parts, eqb-true, le-ltb, eq-eqb, or_right, agree_below_at}
 use Rattle.octets.specs.Octets.{byte, section_length}
@@ -16,7 +16,7 @@ use Rattle.section.specs.declared.timing.RealTime.{RealTime}
 use Rattle.section.specs.Kinds.{table_rule}
 use Rattle.section.specs.Datagrams.{version_number, whole_as, whole_rule}
 use Rattle.section.specs.RealTimes.{real_time_word, real_time_of}
-use Rattle.section.specs.Rules.{size_rule, length_rule, markers_1, markers_5, marker_rule, plain_rule, field_rule, payload_rule, read_rules}
+use Rattle.section.specs.Rules.{markers_1, markers_5, plain_rule, field_rule, payload_rule, read_rules}
 use Rattle.section.specs.Writing.{write_rules}
 use Rattle.section.specs.Sections.{payload_of, timing_of, HeaderIn}
 use Rattle.section.specs.Layout.{written, written_of}
@@ -37,8 +37,8 @@ behind (Check h) t payload = refl
 
 payload_back : (h : Header) (t : RealTime) (payload : List ℕ) → payload_of (written h t payload) ≡ payload
 payload_back h t payload =
-    let n : length (written h t payload) - 16 ≡ length payload = let e = written_length h t payload in omega arith in
-    rw (n, behind h t payload) (take_at payload _ (length payload) refl)
+    let n : length (written h t payload) - 16 ≡ length payload = omega (arith, written_length h t payload) in
+    rw (n, behind h t payload, take_at)
 
 timing_back : (h : Header) (t : RealTime) (payload : List ℕ) → t.delta_t < 2 ^ 12 → t.address < 2 ^ 18 → timing_of (written h t payload) ≡ t
 unfolding written
@@ -63,15 +63,6 @@ whole_passes : (v : IpVersion) (d : List ℕ) → whole_as v d ≡ true → whol
 whole_passes V4 d is = rw is
 whole_passes V6 d is = rw (or_right (whole_as V4 d) (whole_as V6 d) is)
 
-size_passes : (n : ℕ) → n ≤ 4080 → size_rule (16 + n) ≡ None
-size_passes n fits = rw (le-ltb (16 + n) 16 (omega arith), le-ltb 4096 (16 + n) (omega arith))
-
-length_passes : (n : ℕ) → n ≤ 4080 → length_rule (0xB0 + (16 + n - 3) / 256) ((16 + n - 3) % 256) (16 + n) ≡ None
-length_passes n fits = rw (eq-eqb (section_length (0xB0 + (16 + n - 3) / 256) ((16 + n - 3) % 256)) (16 + n - 3) (omega arith))
-
-marker_passes : (n byte_5 : ℕ) → n ≤ 4080 → markers_5 byte_5 ≡ true → marker_rule (0xB0 + (16 + n - 3) / 256) byte_5 ≡ None
-marker_passes n byte_5 fits five = rw (marked ((16 + n - 3) / 256) (omega arith), five)
-
 -- the rules that only the kind of section decides
 kind_passes : (R m : ℕ) (h : Header) (t : RealTime) (payload : List ℕ) (room : ℕ) → Passes (write_rules R m h t payload room)
     → (table_rule (byte (written h t payload) 0) ≡ None)
@@ -94,14 +85,15 @@ pub passes_back : (R m : ℕ) (h : Header) (t : RealTime) (payload : List ℕ) (
 passes_back R m h t payload room passes =
     let w = bounds R m h t payload room passes in
     let k = kind_passes R m h t payload room passes in
-    let n = length payload in
+    let s = written h t payload in
     let size = written_length h t payload in
-    let l = length_back h t payload in
-    let address : (timing_of (written h t payload)).address ≡ t.address = ap (λ (t : RealTime). t.address) (timing_back h t payload w.short w.low) in
-    let size_ok : size_rule (length (written h t payload)) ≡ None = rw size (size_passes n w.fits) in
-    let length_ok : length_rule (byte (written h t payload) 1) (byte (written h t payload) 2) (length (written h t payload)) ≡ None = rw (l.0, l.1, size) (length_passes n w.fits) in
-    let markers_ok : marker_rule (byte (written h t payload) 1) (byte (written h t payload) 5) ≡ None = rw l.0 (marker_passes n (byte (written h t payload) 5) w.fits k.1) in
-    first_passes _ (rw (size_ok, k.0, length_ok, markers_ok, k.2, crc_back h t payload, address, payload_back h t payload, k.3, k.4))
+    let told = length_back h t payload in
+    let shortest = le-ltb (length s) 16 (omega arith) in
+    let longest = le-ltb 4096 (length s) (omega arith) in
+    let length_told = eq-eqb (section_length (byte s 1) (byte s 2)) (length s - 3) (omega arith) in
+    let marked_1 : markers_1 (byte s 1) ≡ true = rw told.0 (marked ((16 + length payload - 3) / 256) (omega arith)) in
+    let address : (timing_of s).address ≡ t.address = ap (λ (t : RealTime). t.address) (timing_back h t payload w.short w.low) in
+    first_passes _ (rw (shortest, longest, k.0, length_told, marked_1, k.1, k.2, crc_back h t payload, address, payload_back h t payload, k.3, k.4))
 
 version_read : (v : IpVersion) (d : List ℕ) → whole_as v d ≡ true → byte d 0 / 16 ≡ version_number v
 version_read v d is = eqb-true _ _ (and_parts _ _ (and_parts _ _ (and_parts _ _ is).0).0).0

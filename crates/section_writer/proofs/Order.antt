@@ -1,43 +1,45 @@
 -- The rules of writing in their order, as the code comes to them.
 use Rattle.std.proofs.Common.{◌≡◌, ℕ, ◌^◌, not, eqb, List, [], ◌∷◌, length, Some, None, Ok, Err, Result, ◌∙◌}
+use Rattle.std.proofs.lemmas.Bool.{lt-leb}
 use Rattle.refusal.specs.declared.Refusal.{Refusal}
 use Rattle.refusal.specs.declared.Refusal.TheVariants.{Unwritable}
 use Rattle.refusal.specs.Rules.{Verdict, when, first, Refused, Passes, Answers}
-use Rattle.refusal.proofs.Order.{or_else_none, first_append, first_passes, first_refuses, refused_first}
-use Rattle.section.specs.declared.reading.Header.{Header}
-use Rattle.section.specs.declared.timing.RealTime.{RealTime}
-use Rattle.std.proofs.lemmas.Bool.{lt-leb}
-use Rattle.section_writer.proofs.Allowed.{address_low}
+use Rattle.refusal.proofs.Order.{or_else_none, first_append, first_passes, first_refuses, refused_front, refused_first}
+use Rattle.section.specs.declared.frame_size.FrameSize.{FrameSize}
+use Rattle.section.specs.declared.reading.Section.{Section}
 use Rattle.section.specs.Writing.{write_field_rule, write_payload_rule, unwritable_rule, write_rules, timing_rules}
+use Rattle.section_writer.proofs.Allowed.{address_low}
 
--- 10 and 11
-abbrev pub content : (R m : ℕ) → Header → RealTime → (payload : List ℕ) → List Verdict
-content R m h t payload = write_field_rule R m h t.address (length payload) ∷ write_payload_rule h payload ∷ []
+module _ (frame : FrameSize) (x : Section) (room : ℕ) where
+  -- 10 and 11
+  abbrev content : List Verdict
+  content =
+      write_field_rule frame.rows frame.check_columns x.header x.timing.address (length x.payload.now) ∷ write_payload_rule x.header x.payload.now ∷ []
 
--- once those have passed, 15 is left
-late : (R m : ℕ) (h : Header) (t : RealTime) (payload : List ℕ) (room : ℕ) → first (content R m h t payload) ≡ None → first (write_rules R m h t payload room) ≡ first (unwritable_rule room t.delta_t ∷ [])
-late R m h t payload room none = first_append (content R m h t payload) (unwritable_rule room t.delta_t ∷ []) ∙ rw none
+  -- all of them
+  abbrev in_order : List Verdict
+  in_order = write_rules frame.rows frame.check_columns x.header x.timing x.payload.now room
 
-pub content_refused : (R m : ℕ) (h : Header) (t : RealTime) (payload : List ℕ) (room : ℕ) (e : Refusal) → first (content R m h t payload) ≡ Some e → Refused (write_rules R m h t payload room) e
-content_refused R m h t payload room e some =
-    first_refuses _ e (first_append (content R m h t payload) (unwritable_rule room t.delta_t ∷ []) ∙ rw some)
+  pub content_refused : {e : Refusal} → first content ≡ Some e → Refused in_order e
+  content_refused some = refused_front content (unwritable_rule room x.timing.delta_t ∷ []) some
 
-pub buffer_refused : (R m : ℕ) (h : Header) (t : RealTime) (payload : List ℕ) (room : ℕ) (e : Refusal) → first (content R m h t payload) ≡ None → when (not (eqb room 4096)) Unwritable ≡ Some e → Refused (write_rules R m h t payload room) e
-buffer_refused R m h t payload room e none some = first_refuses _ e (late R m h t payload room none ∙ rw some)
+  -- once 10 and 11 have passed, 15 is left
+  late : first content ≡ None → first in_order ≡ first (unwritable_rule room x.timing.delta_t ∷ [])
+  late none = first_append content (unwritable_rule room x.timing.delta_t ∷ []) ∙ rw none
 
--- an address that is not refused has 18 bits, so that only delta_t can still be in the way of the real-time parameters
-timing_refused : (R m : ℕ) (h : Header) (t : RealTime) (payload : List ℕ) (room : ℕ) (e : Refusal) → first (content R m h t payload) ≡ None → when (not (eqb room 4096)) Unwritable ≡ None
-    → Refused (timing_rules t) e → Refused (write_rules R m h t payload room) e
-timing_refused R m h t payload room e none fits refused =
-    let low = lt-leb (2 ^ 18) t.address (address_low R m h t.address (length payload) (or_else_none _ _ none).0) in
-    first_refuses _ e (late R m h t payload room none ∙ rw fits (rw low at (refused_first (timing_rules t) e refused)))
+  pub buffer_refused : {e : Refusal} → first content ≡ None → when (not (eqb room 4096)) Unwritable ≡ Some e → Refused in_order e
+  buffer_refused none some = first_refuses in_order _ (late none ∙ rw some)
 
-all_pass : (R m : ℕ) (h : Header) (t : RealTime) (payload : List ℕ) (room : ℕ) → first (content R m h t payload) ≡ None → when (not (eqb room 4096)) Unwritable ≡ None
-    → Passes (timing_rules t) → Passes (write_rules R m h t payload room)
-all_pass R m h t payload room none fits timing = first_passes _ (late R m h t payload room none ∙ rw (fits, timing.none 1))
+  -- an address that is not refused has 18 bits, so that only delta_t can still be in the way of the real-time parameters
+  timing_refused : {e : Refusal} → first content ≡ None → when (not (eqb room 4096)) Unwritable ≡ None → Refused (timing_rules x.timing) e → Refused in_order e
+  timing_refused none fits refused =
+      let low = lt-leb (2 ^ 18) x.timing.address (address_low frame.rows frame.check_columns x.header x.timing.address (length x.payload.now) (or_else_none _ _ none).0) in
+      first_refuses in_order _ (late none ∙ rw fits (rw low at (refused_first (timing_rules x.timing) _ refused)))
 
--- so their answer is that of all rules
-pub timing_answers : (R m : ℕ) (h : Header) (t : RealTime) (payload : List ℕ) (room : ℕ) (Done : List ℕ → Type 0) (r : Result (List ℕ) Refusal) → first (content R m h t payload) ≡ None → when (not (eqb room 4096)) Unwritable ≡ None
-    → Answers (timing_rules t) Done r → Answers (write_rules R m h t payload room) Done r
-timing_answers R m h t payload room Done (Ok bytes) none fits (passes, done) = (all_pass R m h t payload room none fits passes, done)
-timing_answers R m h t payload room Done (Err e) none fits refused = timing_refused R m h t payload room e none fits refused
+  all_pass : first content ≡ None → when (not (eqb room 4096)) Unwritable ≡ None → Passes (timing_rules x.timing) → Passes in_order
+  all_pass none fits timing = first_passes in_order (late none ∙ rw (fits, timing.none 1))
+
+  -- so their answer is that of all rules
+  pub timing_answers : (Done : List ℕ → Type 0) (r : Result (List ℕ) Refusal) → first content ≡ None → when (not (eqb room 4096)) Unwritable ≡ None → Answers (timing_rules x.timing) Done r → Answers in_order Done r
+  timing_answers Done (Ok bytes) none fits (passes, done) = (all_pass none fits passes, done)
+  timing_answers Done (Err e) none fits refused = timing_refused none fits refused

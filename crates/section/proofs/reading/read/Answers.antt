@@ -1,13 +1,14 @@
 use Rattle.std.proofs.Common.{Ok, Err, rules}
 use Rattle.std.proofs.lemmas.Result.{err_from_is_err_and}
+use Rattle.refusal.proofs.Order.{refused_front}
 use Rattle.section.proofs.WrittenAgain.{written_again}
-use Rattle.section.proofs.Halves.{envelope_refused, content_answers, part}
+use Rattle.section.proofs.Halves.{envelope, content_answers, part}
 use Rattle.section.proofs.reading.read.Goals as goal
 
 pub returns-in_err-kind-clause-answer : goal.returns-in_err-kind-clause-answer
 returns-in_err-kind-clause-answer c =
     let e = err_from_is_err_and c.from_residual.result c.from_residual.ensures.1 in
-    rw (e.1, e.2) (envelope_refused _ _ c.args.section.now _ c.in_err-kind.ensures)
+    rw (e.1, e.2) (refused_front (envelope c.args.section.now) _ c.in_err-kind.ensures)
 
 pub returns-in_err-header-clause-answer : goal.returns-in_err-header-clause-answer
 returns-in_err-header-clause-answer c =
