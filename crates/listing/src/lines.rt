@@ -7,14 +7,8 @@ ghost use Rattle.listing.specs.Parts.{part_text, IsShort};
 use crate::parts::Part::{Number, Word};
 use crate::parts::{Part, put};
 use refusal::Refusal;
-use section::{Header, Kind, RealTime, read};
+use section::{FrameSize, Header, Kind, RealTime, read};
 use stream::columns::Line;
-
-/// How many rows the burst has whose sections are listed.
-const ROWS: usize = 256;
-
-/// How many check columns it has.
-const CHECK_COLUMNS: usize = 64;
 
 /// Which section of its stream a section is, and where it begins there.
 #[derive(Clone, Copy, Default, PartialEq, Eq, Debug)]
@@ -118,7 +112,7 @@ pub fn section_line(position: Position, section: &[u8]) -> (Line, Option<Kind>)
     ensures { Lists position.number position.offset section.now result.0 result.1 }
 {
     let mut line = Line::new();
-    match read(section, ROWS, CHECK_COLUMNS) {
+    match read(section, FrameSize::RS_256) {
         Ok(fields) => {
             let kind = Some(fields.header.kind());
             put(&mut line, &beginning_parts(position, section.len(), kind));

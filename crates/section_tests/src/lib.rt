@@ -6,10 +6,15 @@
 mod tests {
     use crc32::crc_32;
     use refusal::Refusal;
-    use section::read;
+    use section::{FrameSize, read};
     use section_writer::write;
     use std::process::Abort;
     use std::test::Fail;
+
+    const SMALL: FrameSize = FrameSize {
+        rows: 20,
+        check_columns: 8,
+    };
 
     // A datagram section of 36 bytes, and an MPE-FEC section for 20 rows and 8 check columns of 36 bytes too.
     // The last four bytes are left to `seal`.
@@ -52,8 +57,8 @@ mod tests {
     }
 
     // Whether a section is read, or the number and place of its refusal.
-    fn answer(section: &[u8], rows: usize, columns: usize) -> Result<(), (u8, u64)> {
-        match read(section, rows, columns) {
+    fn answer(section: &[u8], frame: FrameSize) -> Result<(), (u8, u64)> {
+        match read(section, frame) {
             Ok(_) => Ok(()),
             Err(refusal) => Err((refusal.number(), refusal.place())),
         }
@@ -91,11 +96,11 @@ mod tests {
         let mut rest = damages;
         while let [one, others @ ..] = rest {
             let section = spoilt(whole, &[*one]);
-            assert_eq!(rt; answer(&section, 20, 8), Err(one.refusal));
-            assert_eq!(rt; answer(&section[0..15], 20, 8), Err((4, 0)));
+            assert_eq!(rt; answer(&section, SMALL), Err(one.refusal));
+            assert_eq!(rt; answer(&section[0..15], SMALL), Err((4, 0)));
             for other in others {
                 let section = spoilt(whole, &[*one, *other]);
-                assert_eq!(rt; answer(&section, 20, 8), Err(one.refusal));
+                assert_eq!(rt; answer(&section, SMALL), Err(one.refusal));
             }
             rest = others;
         }
@@ -104,18 +109,23 @@ mod tests {
     #[test]
     fn whole_sections_pass(rt: HostRuntime) {
         let section = sealed(DATAGRAM);
-        assert_eq!(rt; answer(&section, 20, 8), Ok(()));
+        assert_eq!(rt; answer(&section, SMALL), Ok(()));
         let section = sealed(CHECK);
-        assert_eq!(rt; answer(&section, 20, 8), Ok(()));
-        assert_eq!(rt; answer(&section, 20, 7), Err((10, 7)));
-        assert_eq!(rt; answer(&section, 19, 8), Err((10, 8)));
+        assert_eq!(rt; answer(&section, SMALL), Ok(()));
+        let seven_columns = FrameSize {
+            check_columns: 7,
+            ..SMALL
+        };
+        let nineteen_rows = FrameSize { rows: 19, ..SMALL };
+        assert_eq!(rt; answer(&section, seven_columns), Err((10, 7)));
+        assert_eq!(rt; answer(&section, nineteen_rows), Err((10, 8)));
         // Check column 0 has the address 0 for any number of rows, so that the size of its payload counts.
         let mut section = CHECK;
         section[6] = 0;
         section[11] = 0;
         seal(&mut section);
-        assert_eq!(rt; answer(&section, 20, 8), Ok(()));
-        assert_eq!(rt; answer(&section, 19, 8), Err((10, 12)));
+        assert_eq!(rt; answer(&section, SMALL), Ok(()));
+        assert_eq!(rt; answer(&section, nineteen_rows), Err((10, 12)));
     }
 
     #[test]
@@ -152,16 +162,16 @@ mod tests {
 
     #[test]
     fn sizes(rt: HostRuntime) {
-        assert_eq!(rt; answer(&[0x3e; 15], 256, 64), Err((4, 0)));
-        assert_eq!(rt; answer(&[0x3e; 16], 256, 64), Err((6, 1)));
-        assert_eq!(rt; answer(&[], 256, 64), Err((4, 0)));
+        assert_eq!(rt; answer(&[0x3e; 15], FrameSize::RS_256), Err((4, 0)));
+        assert_eq!(rt; answer(&[0x3e; 16], FrameSize::RS_256), Err((6, 1)));
+        assert_eq!(rt; answer(&[], FrameSize::RS_256), Err((4, 0)));
         let mut section = [0; 4097];
-        assert_eq!(rt; answer(&section, 256, 64), Err((4, 0)));
+        assert_eq!(rt; answer(&section, FrameSize::RS_256), Err((4, 0)));
         section[0..12].copy_from_slice(&DATAGRAM[0..12]);
         section[1..3].copy_from_slice(&[0xbf, 0xfd]);
         section[12..16].copy_from_slice(&[0x45, 0, 0x0f, 0xf0]);
         seal(&mut section[0..4096]);
-        assert_eq!(rt; answer(&section[0..4096], 256, 64), Ok(()));
+        assert_eq!(rt; answer(&section[0..4096], FrameSize::RS_256), Ok(()));
     }
 
     // Writes a section again, into a buffer of so many bytes, which all were 0x5a; answers what write does, and the buffer.
@@ -170,9 +180,9 @@ mod tests {
         section: &[u8],
         room: usize,
     ) -> Result<(Result<usize, Refusal>, Vec<u8>), Fail> {
-        let section = read(section, 20, 8)?;
+        let section = read(section, SMALL)?;
         let mut buffer = vec![in rt.alloc(); 0x5au8; room]?;
-        let answer = write(section, 20, 8, &mut buffer);
+        let answer = write(section, SMALL, &mut buffer);
         Ok((answer, buffer))
     }
 

@@ -4,16 +4,12 @@
 
 use crc32::crc_32;
 use program::bytes_of;
-use section::read;
+use section::{FrameSize, read};
 use std::io::{BufRead, BufReader};
-
-const ROWS: usize = 256;
-
-const CHECK_COLUMNS: usize = 64;
 
 // The number and the place of the refusal, or 0 0, as the output has them.
 fn answer(section: &[u8]) -> (u8, u64) {
-    read(section, ROWS, CHECK_COLUMNS).map_or_else(
+    read(section, FrameSize::RS_256).map_or_else(
         |refusal| (refusal.number(), refusal.place()),
         |_| (0, 0),
     )

@@ -4,7 +4,7 @@
 use anyhow::anyhow;
 use program::{asked_to_run, bytes_of};
 use refusal::Refusal;
-use section::{CheckHeader, DatagramHeader, Header, IpVersion, RealTime, Section};
+use section::{CheckHeader, DatagramHeader, FrameSize, Header, IpVersion, RealTime, Section};
 use section_writer::{BUFFER, write};
 use std::alloc::Global;
 use std::io;
@@ -19,18 +19,11 @@ The payload is in hex, upper case, `-` for none; all else is in decimals. VERSIO
 FB (frame_boundary) are 0 or 1. ROWS and COLUMNS are those of the frame: its rows and check columns.
 DELTA_T has up to 16 bits, ADDRESS 32, ROWS and COLUMNS 64, the others 8. Any other line ends the program.";
 
-// The rows and check columns of the frame that a section is for.
-#[derive(Clone, Copy)]
-struct FrameSize {
-    rows: usize,
-    columns: usize,
-}
-
 // A section as a line describes it. Only an MPE-FEC section depends on the size of its frame.
 #[derive(Drop)]
 struct Description {
     header: Header,
-    size: FrameSize,
+    frame: FrameSize,
     timing: RealTime,
     payload: Vec<u8>,
 }
@@ -62,11 +55,7 @@ fn header_of(words: &[&str]) -> anyhow::Result<(Header, FrameSize)> {
                 mac_address_5: mac_5.parse()?,
                 version: version_of(version)?,
             };
-            let size = FrameSize {
-                rows: 0,
-                columns: 0,
-            };
-            Ok((Header::Datagram(header), size))
+            Ok((Header::Datagram(header), FrameSize::RS_256))
         }
         ["check", p, s, last, rows, columns] => {
             let header = CheckHeader {
@@ -74,11 +63,11 @@ fn header_of(words: &[&str]) -> anyhow::Result<(Header, FrameSize)> {
                 number: s.parse()?,
                 last: last.parse()?,
             };
-            let size = FrameSize {
+            let frame = FrameSize {
                 rows: rows.parse()?,
-                columns: columns.parse()?,
+                check_columns: columns.parse()?,
             };
-            Ok((Header::Check(header), size))
+            Ok((Header::Check(header), frame))
         }
         _ => Err(anyhow!("this describes no section")),
     }
@@ -99,10 +88,10 @@ fn described(heap: Global, line: io::Result<String>) -> anyhow::Result<Descripti
     let [own @ .., delta_t, table, frame, address, payload] = words.as_slice() else {
         return Err(anyhow!("there are too few words"));
     };
-    let (header, size) = header_of(own)?;
+    let (header, frame_size) = header_of(own)?;
     Ok(Description {
         header,
-        size,
+        frame: frame_size,
         timing: timing_of(delta_t, table, frame, address)?,
         payload: bytes_of(heap, payload)?,
     })
@@ -116,7 +105,7 @@ fn print_section(out: &mut impl Write, section: &[u8]) -> io::Result<()> {
 }
 
 fn print_refusal(out: &mut impl Write, refusal: Refusal) -> io::Result<()> {
-    let (number, layer, place) = (refusal.number(), refusal.layer().word(), refusal.place());
+    let (number, layer, place) = (refusal.number(), refusal.layer(), refusal.place());
     writeln!(out, "refused {number} {layer} {place}")
 }
 
@@ -127,9 +116,8 @@ fn print_answer(out: &mut impl Write, description: &Description) -> io::Result<(
         timing: description.timing,
         payload: &description.payload,
     };
-    let FrameSize { rows, columns } = description.size;
     let mut buffer = [0; BUFFER];
-    match write(section, rows, columns, &mut buffer) {
+    match write(section, description.frame, &mut buffer) {
         Ok(length) => print_section(out, &buffer[..length]),
         Err(refusal) => print_refusal(out, refusal),
     }
