@@ -1,5 +1,5 @@
 -- The order of rules: a list of rules answers as `first` of it does, and so settles a call.
-use Rattle.std.proofs.Common.{◌≡◌, ℕ, zero, suc, ◌<◌, Bool, true, false, not, ◌⊎◌, List, [], ◌∷◌, ◌++◌, get_or, Some, None, Ok, Err, Result, refl, ◌∙◌, inl, inr, suc-le-suc, zero-le, le_of_suc-le-suc, arith}
+use Rattle.std.proofs.Common.{◌≡◌, ℕ, zero, suc, ◌<◌, Bool, true, false, not, ◌⊎◌, List, [], ◌∷◌, ◌++◌, get_or, Some, None, Ok, Err, Result, refl, ◌∙◌, inl, inr, arith}
 use Rattle.refusal.specs.declared.Refusal.{Refusal}
 use Rattle.refusal.specs.Rules.{Verdict, when, or_else, first, Refused, Passes, Answers, Obeys, Settles}
 
@@ -39,7 +39,7 @@ first_passes rules none = record { none = none_at rules none }
 -- a rule fits, and none before it
 none_before : (rules : List Verdict) (at : ℕ) → ((k : ℕ) → k < at → get_or rules k None ≡ None) → (k : ℕ) → k < suc at → get_or (None ∷ rules) k None ≡ None
 none_before rules at before zero h = refl
-none_before rules at before (suc k) h = before k (le_of_suc-le-suc h)
+none_before rules at before (suc k) h = before k (omega arith)
 
 pub first_refuses : (rules : List Verdict) (e : Refusal) → first rules ≡ Some e → Refused rules e
 first_refuses [] e some = cc
@@ -57,7 +57,7 @@ refused_at : (rules : List Verdict) (e : Refusal) (at : ℕ) → get_or rules at
 refused_at [] e at gives before = gives
 refused_at (rule ∷ rules) e zero gives before = rw gives
 refused_at (rule ∷ rules) e (suc at) gives before =
-    rw (before 0 (suc-le-suc zero-le)) (refused_at rules e at gives (λ k h. before (suc k) (suc-le-suc h)))
+    rw (before 0 (omega arith)) (refused_at rules e at gives (λ k h. before (suc k) (omega arith)))
 
 pub refused_first : (rules : List Verdict) (e : Refusal) → Refused rules e → first rules ≡ Some e
 refused_first rules e refused = refused_at rules e refused.at refused.gives refused.before

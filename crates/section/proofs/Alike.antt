@@ -1,5 +1,5 @@
 -- Bytes that are alike: what is written at a place, and what was read there, agree in every bit that is read.
-use Rattle.std.proofs.Common.{◌≡◌, ℕ, zero, suc, ◌+◌, ◌%◌, ◌<◌, Bool, true, false, not, ◌&&◌, ◌||◌, List, ◌∷◌, length, ⊎_elim, le_of_suc-le-suc, add-zero, add-suc, suc-add, refl, sym, ◌∙◌, arith, lit<}
+use Rattle.std.proofs.Common.{◌≡◌, ℕ, zero, suc, ◌+◌, ◌%◌, ◌<◌, Bool, true, false, not, ◌&&◌, ◌||◌, List, ◌∷◌, length, ⊎_elim, add-zero, add-suc, suc-add, refl, sym, ◌∙◌, arith, lit<}
 use Rattle.std.proofs.lemmas.Bool.{true≢false, cases_Bool, and_parts, agree_below, agree_below_at}
 use Rattle.std.proofs.Math.Bool.{beq, or-false}
 use Rattle.std.specs.Cmp.{booleans_Decides}
@@ -61,7 +61,7 @@ pub record Alikes (id place : ℕ) (ws s : List ℕ) : Type 0 where
 -- one more in front
 first_and_rest : {id place w : ℕ} {ws s : List ℕ} → Alike id place w (byte s place) → Alikes id (suc place) ws s → (k : ℕ) → k < suc (length ws) → Alike id (place + k) (byte (w ∷ ws) k) (byte s (place + k))
 first_and_rest one rest zero h = rw add-zero one
-first_and_rest one rest (suc k) h = rw (add-suc, ← suc-add) (rest.each k (le_of_suc-le-suc h))
+first_and_rest one rest (suc k) h = rw (add-suc, ← suc-add) (rest.each k (omega arith))
 
 pub in_front : {id place w : ℕ} {ws s : List ℕ} → Alike id place w (byte s place) → Alikes id (suc place) ws s → Alikes id place (w ∷ ws) s
 in_front one rest = record { each = first_and_rest one rest }

@@ -1,5 +1,5 @@
 -- The two halves of reading a section joined: its envelope (4 to 9), then its content (10 and 11).
-use Rattle.std.proofs.Common.{◌≡◌, ℕ, ◌-◌, List, [], ◌∷◌, length, take, drop, None, Result, arith}
+use Rattle.std.proofs.Common.{ap, ◌≡◌, ℕ, ◌-◌, List, [], ◌∷◌, length, take, drop, None, Result, arith}
 use Rattle.octets.specs.Octets.{byte}
 use Rattle.refusal.specs.declared.Refusal.{Refusal}
 use Rattle.refusal.specs.Rules.{Verdict, first, Answers, Obeys}
@@ -27,4 +27,4 @@ content_answers R m s id timing payload r none is_id is_timing is_payload obeys 
 
 -- the part that the code cuts out is the payload
 pub part : (s : List ℕ) → take (length s - 4 - 12) (drop 12 s) ≡ payload_of s
-part s = let n : length s - 4 - 12 ≡ length s - 16 = omega arith in rw n
+part s = ap (λ n. take n (drop 12 s)) (omega arith)

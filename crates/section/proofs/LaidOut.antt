@@ -20,6 +20,6 @@ pub written_length : (h : Header) (t : RealTime) (payload : List ℕ) → length
 unfolding written
 written_length h t payload = omega (arith, length-append (message h t payload) (big_endian (crc (message h t payload))), message_length h t payload)
 
-pub in_message : (h : Header) (t : RealTime) (payload : List ℕ) (k : ℕ) → k < 12 + length payload → byte (written h t payload) k ≡ byte (message h t payload) k
+pub in_message : (h : Header) (t : RealTime) (payload : List ℕ) (k : ℕ) → k < length (message h t payload) → byte (written h t payload) k ≡ byte (message h t payload) k
 unfolding written
-in_message h t payload k less = get_or_append_left (message h t payload) (big_endian (crc (message h t payload))) 0 k (omega (arith, message_length h t payload))
+in_message h t payload = get_or_append_left (message h t payload) (big_endian (crc (message h t payload))) 0

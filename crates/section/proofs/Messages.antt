@@ -18,11 +18,9 @@ module _ {R m : ℕ} {s : List ℕ} (bytes : Bytes s) (p : Passed R m s) where
   payload_length = simp (length-take, length-drop) (omega arith)
 
   payload_alikes : Alikes (byte s 0) 12 (payload_of s) s
-  payload_alikes = record {
-    each = λ k h.
-        let n = payload_length in
-        alike_same (get_or-take (length s - 16) (drop 12 s) k 0 (omega arith) ∙ get_or-drop 12 s k 0) (bytes (12 + k) (omega arith));
-  }
+  payload_alikes =
+      let n = payload_length in
+      record { each = λ k h. alike_same (get_or-take _ (drop 12 s) k 0 (omega arith) ∙ get_or-drop 12 s k 0) (bytes (12 + k) (omega arith)) }
 
   -- from byte 8 on: the fields side by side are the number that they were read from
   timing_alikes : Alikes (byte s 0) 8 (big_endian (real_time_word (timing_of s)) ++ payload_of s) s

@@ -31,8 +31,7 @@ module _ {R m : ℕ} {s : List ℕ} (bytes : Bytes s) (p : Passed R m s) (h : He
   alike : HeaderIn s h → (k : ℕ) → k + 4 < length s → Alike (byte s 0) k (byte (again s h) k) (byte s k)
   alike of k l =
       let n : k < length (before_crc s h) = omega (arith, front_length) in
-      let m : k < 12 + length (payload_of s) = omega (arith, payload_length bytes p) in
-      rw (in_message h (timing_of s) (payload_of s) k m) (rw zero-add at ((message_alikes bytes p h of).each k n))
+      rw (in_message h (timing_of s) (payload_of s) k n) (rw zero-add at ((message_alikes bytes p h of).each k n))
 
   -- no other four bytes than those of CRC_32 stand behind the message in a section that passes
   same_crc : before_crc s h ≡ take (length s - 4) s → again s h ≡ s
@@ -50,7 +49,7 @@ module _ {R m : ℕ} {s : List ℕ} (bytes : Bytes s) (p : Passed R m s) (h : He
       let n = front_length in
       same_crc
       (ext_get_or 0 (before_crc s h) (take (length s - 4) s) (omega (arith, length-take (length s - 4) s))
-      (λ k l. sym (in_message h (timing_of s) (payload_of s) k (omega (arith, message_length h (timing_of s) (payload_of s)))) ∙ same_if_alike (byte s 0) k _ _ (alike of k (omega arith)) (bytes k (omega arith)) (rest k)
+      (λ k l. sym (in_message h (timing_of s) (payload_of s) k l) ∙ same_if_alike (byte s 0) k _ _ (alike of k (omega arith)) (bytes k (omega arith)) (rest k)
       ∙ sym (get_or-take (length s - 4) s k 0 (omega arith))))
 
 pub written_again : (R m : ℕ) (s : List ℕ) (x : Section) → Bytes s → Passes (read_rules R m s) → SectionOf s x → WrittenAgain R m s x
