@@ -7,14 +7,6 @@ use program::bytes_of;
 use section::{FrameSize, read};
 use std::io::{BufRead, BufReader};
 
-// The number and the place of the refusal, or 0 0, as the output has them.
-fn answer(section: &[u8]) -> (u8, u64) {
-    read(section, FrameSize::RS_256).map_or_else(
-        |refusal| (refusal.number(), refusal.place()),
-        |_| (0, 0),
-    )
-}
-
 fn run(rt: &HostRuntime) -> anyhow::Result<()> {
     for line in BufReader::new(rt.alloc(), rt.stdin())?.lines(rt.alloc()) {
         let text = line?;
@@ -24,8 +16,13 @@ fn run(rt: &HostRuntime) -> anyhow::Result<()> {
             hex => bytes_of(rt.alloc(), hex)?,
         };
         let crc = crc_32(&bytes);
-        let (number, place) = answer(&bytes);
-        println!(rt; "{text} {crc:08X} {number} {place}")?;
+        match read(&bytes, FrameSize::RS_256) {
+            Ok(_) => println!(rt; "{text} {crc:08X} 0 0")?,
+            Err(refusal) => {
+                let (number, place) = (refusal.number(), refusal.place());
+                println!(rt; "{text} {crc:08X} {number} {place}")?;
+            }
+        }
     }
     Ok(())
 }
