@@ -5,7 +5,7 @@ ghost use Rattle.listing.specs.Lines.{kind_word, beginning, timing_columns, head
 ghost use Rattle.listing.specs.Parts.{part_text, IsShort};
 
 use crate::parts::Part::{Number, Word};
-use crate::parts::{Part, put};
+use crate::parts::{Part, put, wide};
 use refusal::Refusal;
 use section::{FrameSize, Header, Kind, RealTime, read};
 use stream::columns::Line;
@@ -25,7 +25,7 @@ impl Position {
     {
         Position {
             number: self.number.saturating_add(1),
-            offset: self.offset.saturating_add(size as u64),
+            offset: self.offset.saturating_add(wide(size)),
         }
     }
 }
@@ -50,7 +50,7 @@ fn beginning_parts(position: Position, size: usize, kind: Option<Kind>) -> [Part
     [
         Number(position.number, 7),
         Number(position.offset, 9),
-        Number(size as u64, 6),
+        Number(wide(size), 6),
         Word(" ", 1),
         Word(word(kind), 8),
     ]
@@ -92,7 +92,7 @@ fn put_header(line: &mut Line, header: Header, size: usize)
             line,
             &[
                 Number(u64::from(datagram.version.number()), 3),
-                Number(size as u64, 6),
+                Number(wide(size), 6),
             ],
         ),
         Header::Check(check) => put(

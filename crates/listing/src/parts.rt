@@ -5,6 +5,13 @@ ghost use Rattle.listing.specs.Parts.{part_text, IsShort};
 
 use stream::columns::Line;
 
+/// A size as a number of 64 bits. `as`: there is no `From<usize>` for one.
+pub(super) fn wide(size: usize) -> u64
+    ensures { result ≡ size }
+{
+    size as u64
+}
+
 /// What stands in so many columns: a number on their right side, or a word on their left.
 #[derive(Clone, Copy)]
 pub(super) enum Part {

@@ -24,6 +24,7 @@ impl<T: Drop> From<AllocFailed<T>> for HexError {
     }
 }
 
+// Not `to_digit` of std, which also takes small letters.
 fn digit(hex: u8) -> Option<u8>
     ensures { elim result [ Some d ↦ (d < 16) × (hex_digit d ≡ hex) | None ↦ ((d : ℕ) → d < 16 → hex_digit d ≢ hex) ] }
 {

@@ -74,6 +74,7 @@ pub enum Refusal {
 
 impl Refusal {
     /// The number by which a refusal is known.
+    // No `From`: a refusal cannot be had back from it, and `u8::from` would not say which number.
     pub fn number(self) -> u8
         ensures { result ≡ number_of self }
     {
@@ -119,6 +120,7 @@ impl Refusal {
     }
 
     /// The place that a refusal points at, 0 where it points at none.
+    // No `Option`: the rules and every output have 0 there, and each caller would have to put it back.
     pub fn place(self) -> u64
         ensures { result ≡ place_of self }
     {

@@ -14,6 +14,7 @@ pub enum IpVersion {
 
 impl IpVersion {
     /// The number in the upper half of a datagram's first byte.
+    // No `From`: `u8::from(version)` would not say whose number it is.
     pub fn number(self) -> u8
         ensures { result ≡ version_number self }
     {

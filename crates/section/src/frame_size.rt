@@ -21,6 +21,7 @@ impl FrameSize {
     pub fn column_address(self, number: u8) -> u128
         ensures { result ≡ number * self.rows }
     {
+        // `as`: there is no `From<usize>` for a wider number.
         u128::from(number) * self.rows as u128
     }
 }

@@ -75,6 +75,7 @@ fn check_size(rest: &[u8]) -> Result<(), Refusal>
 fn check_crc(section: &[u8]) -> Result<(), Refusal>
     ensures { Obeys (crc_rule section.now) (λ _. Unit {0}) result }
 {
+    // `as`: there is no `From<usize>` for a wider number.
     let place = section.len().saturating_sub(4) as u64;
     refuse_when(crc_32(section) != 0, Refusal::Checksum { place })
 }

@@ -33,6 +33,7 @@ impl From<u32> for RealTime {
 
     fn from(word: u32) -> RealTime {
         RealTime {
+            // `as`: 12 bits are left, and `From` narrows nothing.
             delta_t: (word >> 20) as u16,
             table_boundary: (word >> 19) & 1 == 1,
             frame_boundary: (word >> 18) & 1 == 1,
@@ -42,7 +43,7 @@ impl From<u32> for RealTime {
 }
 
 impl RealTime {
-    // The fields side by side, the highest first.
+    // The fields side by side, the highest first. No `From`, which asks nothing of its value.
     fn word(self) -> u32
         requires delta_t { self.delta_t < 2 ^ 12 }
         requires address { self.address < 2 ^ 18 }

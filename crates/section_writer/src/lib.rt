@@ -96,6 +96,7 @@ fn length_bytes(size: usize) -> [u8; 2]
     requires { size ≤ 4080 }
     ensures { result ≡ bytes_of_length (16 + size) }
 {
+    // `as`: the size fits, and `From` narrows nothing.
     (0xB000 + 16 - 3 + size as u16).to_be_bytes()
 }
 
@@ -175,6 +176,7 @@ fn lay(buffer: &mut [u8], section: Section<'_>, timing: [u8; 4]) -> usize
     n
 }
 
+// It answers a length beside the buffer, and no part of it: the caller lent the buffer and has it back whole.
 /// Writes a section for a frame of this size to the beginning of a buffer of 4,096 bytes, and answers its length: exactly
 /// the bytes of the format; what stands behind them stays. It is refused under 10, 11 or 15, and then nothing is written.
 /// Reading what was written gives the same fields and payload.

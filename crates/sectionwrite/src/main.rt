@@ -46,7 +46,8 @@ fn flag_of(word: &str) -> anyhow::Result<bool> {
     }
 }
 
-// The words that the two kinds of section do not share: their names and headers.
+// The words that the two kinds of section do not share: their names and headers. No `TryFrom`: both types that it gives
+// belong to another crate, and so does that of `timing_of`.
 fn header_of(words: &[&str]) -> anyhow::Result<(Header, FrameSize)> {
     match words {
         ["datagram", mac_6, mac_5, version] => {

@@ -9,6 +9,7 @@ use octets::section_length;
 const MOST_PIECES: usize = 20_000;
 
 /// What stands at the front of the bytes that are held.
+// Three cases, so that neither `Option` nor `Result` has their shape.
 #[derive(Clone, Copy, PartialEq, Eq, Debug)]
 pub enum Cut {
     /// The next piece: so many bytes from the first one held.
@@ -37,6 +38,7 @@ impl Cutter {
     }
 
     /// The next piece of the stream that begins with the bytes held, and ends with them where it has `ended`.
+    // A flag beside the bytes: an enum of the two would hold the same bytes in both cases.
     #[tactic(auto, using(crate::proofs::Fronts::cuts))]
     pub fn next(&mut self, held: &[u8], ended: bool) -> Cut
         ensures cuts { Cuts held.now ended self.old.left self.new.left result }
