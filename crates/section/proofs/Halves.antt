@@ -4,11 +4,12 @@ use Rattle.octets.specs.Octets.{byte}
 use Rattle.refusal.specs.declared.Refusal.{Refusal}
 use Rattle.refusal.specs.Rules.{Verdict, first, Answers, Obeys}
 use Rattle.refusal.proofs.Order.{answers_first, first_append}
+use Rattle.section.specs.declared.reading.Header.{Header}
 use Rattle.section.specs.declared.reading.Section.{Section}
 use Rattle.section.specs.declared.timing.RealTime.{RealTime}
 use Rattle.section.specs.Kinds.{table_rule}
 use Rattle.section.specs.Rules.{size_rule, length_rule, marker_rule, plain_rule, crc_rule, field_rule, payload_rule, read_rules}
-use Rattle.section.specs.Sections.{payload_of, timing_of, SectionOf}
+use Rattle.section.specs.Sections.{payload_of, timing_of, HeaderOf, SectionOf}
 
 abbrev pub envelope : List ℕ → List Verdict
 envelope s =
@@ -24,6 +25,10 @@ pub content_answers : (R m : ℕ) (s : List ℕ) (id : ℕ) (timing : RealTime) 
 content_answers R m s id timing payload r none is_id is_timing is_payload obeys =
     answers_first _ (SectionOf s) r
     (rw (first_append (envelope s) (content R m (byte s 0) (timing_of s).address s (payload_of s)), none) (rw (is_id, is_timing, is_payload) at obeys))
+
+-- the header's fields, told from what the code has at hand, are those of the section
+pub header_same : (s : List ℕ) (id : ℕ) (payload : List ℕ) (h : Header) → id ≡ byte s 0 → payload ≡ payload_of s → HeaderOf id (byte s 3) (byte s 4) (byte s 6) (byte s 7) payload h → HeaderOf (byte s 0) (byte s 3) (byte s 4) (byte s 6) (byte s 7) (payload_of s) h
+header_same s id payload h is_id is_payload of = rw (is_id, is_payload) at of
 
 -- the part that the code cuts out is the payload
 pub part : (s : List ℕ) → take (length s - 4 - 12) (drop 12 s) ≡ payload_of s

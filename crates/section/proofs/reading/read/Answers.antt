@@ -2,7 +2,7 @@ use Rattle.std.proofs.Common.{Ok, Err, rules}
 use Rattle.std.proofs.lemmas.Result.{err_from_is_err_and}
 use Rattle.refusal.proofs.Order.{refused_front}
 use Rattle.section.proofs.WrittenAgain.{written_again}
-use Rattle.section.proofs.Halves.{envelope, content_answers, part}
+use Rattle.section.proofs.Halves.{envelope, content_answers, header_same, part}
 use Rattle.section.proofs.reading.read.Goals as goal
 
 pub returns-in_err-kind-clause-answer : goal.returns-in_err-kind-clause-answer
@@ -24,5 +24,5 @@ returns c =
     let h = c.in_ok-header.ensures in
     let timing = c.from_be_bytes-timing.ensures.value in
     let answer = content_answers c.args.frame.rows c.args.frame.check_columns s _ _ _ (Ok _) k.0 k.1 timing (part s)
-    (h.0, record { header = rw (k.1, part s) at h.1; timing = timing; payload = part s }) in
+    (h.0, record { header = header_same s _ _ _ k.1 (part s) h.1; timing = timing; payload = part s }) in
     record { answer = answer; again = written_again _ _ s _ (λ k h. search rules) answer.0 answer.1 }
