@@ -1,5 +1,5 @@
 //! The size of the frame that a section is for.
-ghost use Rattle.std.specs.Prelude.{◌≡◌, ◌*◌};
+ghost use Rattle.std.specs.Prelude.{◌≡◌, ◌*◌, ◌==◌};
 
 /// How many rows and check columns a frame has. Any numbers will do here.
 #[derive(Clone, Copy, PartialEq, Eq, Debug)]
@@ -17,11 +17,11 @@ impl FrameSize {
         check_columns: 64,
     };
 
-    /// Where the check column with this number begins in the RS table.
-    pub fn column_address(self, number: u8) -> u128
-        ensures { result ≡ number * self.rows }
+    /// Whether the check column with this number begins at this address of the RS table.
+    pub fn begins_column(self, number: u8, address: u32) -> bool
+        ensures { result ≡ (address == number * self.rows) }
     {
         // `as`: there is no `From<usize>` for a wider number.
-        u128::from(number) * self.rows as u128
+        u128::from(address) == u128::from(number) * self.rows as u128
     }
 }

@@ -57,7 +57,7 @@ impl Header {
 }
 
 /// A section's fields and its payload, which is a part of the section that was read, or what is to be written.
-#[derive(Clone, Copy)]
+#[derive(Clone, Copy, PartialEq, Eq, Debug)]
 pub struct Section<'a> {
     pub header: Header,
     pub timing: RealTime,
@@ -101,8 +101,10 @@ impl CheckHeader {
             (column_rule frame.rows frame.check_columns self.padding_columns self.number self.last address size)
             (λ _. Unit {0}) result }
     {
-        let address_fits = u128::from(address) == frame.column_address(self.number);
-        self.check_fields(frame.check_columns, address_fits)?;
+        self.check_fields(
+            frame.check_columns,
+            frame.begins_column(self.number, address),
+        )?;
         refuse_when(size != frame.rows, Refusal::Field { place: 12 })
     }
 }

@@ -31,10 +31,10 @@ fn check_datagram(version: IpVersion, payload: &[u8]) -> Result<(), Refusal>
 }
 
 // The address is that of the check column with this number, and has 18 bits.
-fn column_address(frame: FrameSize, address: u32, number: u8) -> bool
+fn column_address_fits(frame: FrameSize, number: u8, address: u32) -> bool
     ensures { result ≡ (address == number * frame.rows && nat_lt address (2 ^ 18)) }
 {
-    u128::from(address) == frame.column_address(number) && address <= MAX_ADDRESS
+    frame.begins_column(number, address) && address <= MAX_ADDRESS
 }
 
 // The payload is a check column, and a section can carry it.
@@ -58,7 +58,7 @@ fn check_fields(section: Section<'_>, frame: FrameSize) -> Result<(), Refusal>
             check_datagram(header.version, section.payload)
         }
         Header::Check(header) => {
-            let address_fits = column_address(frame, address, header.number);
+            let address_fits = column_address_fits(frame, header.number, address);
             header.check_fields(frame.check_columns, address_fits)?;
             refuse_when(
                 !column_size(frame, section.payload.len()),
