@@ -1,9 +1,9 @@
 -- The rules of writing in their order, as the code comes to them.
-use Rattle.std.proofs.Common.{◌≡◌, ℕ, ◌^◌, not, eqb, List, [], ◌∷◌, length, Some, None, Ok, Err, Result, ◌∙◌}
+use Rattle.std.proofs.Common.{◌≡◌, ℕ, ◌^◌, not, eqb, List, [], ◌∷◌, length, Some, None, ◌∙◌}
 use Rattle.std.proofs.lemmas.Bool.{lt-leb}
 use Rattle.refusal.specs.declared.Refusal.{Refusal}
 use Rattle.refusal.specs.declared.Refusal.TheVariants.{Unwritable}
-use Rattle.refusal.specs.Rules.{Verdict, when, first, Refused, Passes, Answers}
+use Rattle.refusal.specs.Rules.{Verdict, when, first, Refused, Passes}
 use Rattle.refusal.proofs.Order.{or_else_none, first_append, first_passes, first_refuses, refused_front, refused_first}
 use Rattle.section.specs.declared.frame_size.FrameSize.{FrameSize}
 use Rattle.section.specs.declared.reading.Section.{Section}
@@ -31,15 +31,10 @@ module _ (frame : FrameSize) (x : Section) (room : ℕ) where
   buffer_refused none some = first_refuses in_order _ (late none ∙ rw some)
 
   -- an address that is not refused has 18 bits, so that only delta_t can still be in the way of the real-time parameters
-  timing_refused : {e : Refusal} → first content ≡ None → when (not (eqb room 4096)) Unwritable ≡ None → Refused (timing_rules x.timing) e → Refused in_order e
+  pub timing_refused : {e : Refusal} → first content ≡ None → when (not (eqb room 4096)) Unwritable ≡ None → Refused (timing_rules x.timing) e → Refused in_order e
   timing_refused none fits refused =
       let low = lt-leb (2 ^ 18) x.timing.address (address_low frame.rows frame.check_columns x.header x.timing.address (length x.payload.now) (or_else_none _ _ none).0) in
       first_refuses in_order _ (late none ∙ rw fits (rw low at (refused_first (timing_rules x.timing) _ refused)))
 
-  all_pass : first content ≡ None → when (not (eqb room 4096)) Unwritable ≡ None → Passes (timing_rules x.timing) → Passes in_order
+  pub all_pass : first content ≡ None → when (not (eqb room 4096)) Unwritable ≡ None → Passes (timing_rules x.timing) → Passes in_order
   all_pass none fits timing = first_passes in_order (late none ∙ rw (fits, timing.none 1))
-
-  -- so their answer is that of all rules
-  pub timing_answers : (Done : List ℕ → Type 0) (r : Result (List ℕ) Refusal) → first content ≡ None → when (not (eqb room 4096)) Unwritable ≡ None → Answers (timing_rules x.timing) Done r → Answers in_order Done r
-  timing_answers Done (Ok bytes) none fits (passes, done) = (all_pass none fits passes, done)
-  timing_answers Done (Err e) none fits refused = timing_refused none fits refused

@@ -75,19 +75,27 @@ fn check_room(room: usize) -> Result<(), Refusal>
     refuse_when(room != BUFFER, Refusal::Unwritable)
 }
 
-// The four bytes of the real-time parameters, if the section can be written for a frame of this size and into a buffer of
-// so many bytes.
-fn check(section: Section<'_>, frame: FrameSize, room: usize) -> Result<[u8; 4], Refusal>
+// A section that can be written, with the four bytes of its real-time parameters.
+#[derive(Clone, Copy)]
+struct Writable<'a> {
+    section: Section<'a>,
+    timing: [u8; 4],
+    ghost timing_told: { timing ≡ big_endian (real_time_word section.timing) },
+    ghost payload_fits: { length section.payload.now ≤ 4080 },
+}
+
+// The section, if it can be written for a frame of this size and into a buffer of so many bytes.
+fn check(section: Section<'_>, frame: FrameSize, room: usize) -> Result<Writable<'_>, Refusal>
     ensures answer { Answers
         (write_rules frame.rows frame.check_columns section.entry.header section.entry.timing section.entry.payload.now room)
-        (λ timing. timing ≡ big_endian (real_time_word section.entry.timing)) result }
+        (λ writable. writable.section ≡ section.entry) result }
     ensures room { OnOk result (room ≡ 4096) }
-    ensures payload { OnOk result (length section.entry.payload.now ≤ 4080) }
 {
     check_fields(section, frame)?;
     check_room(room)?;
     // Only delta_t can still be refused here: the address was tested with the other fields.
-    section.timing.to_be_bytes()
+    let timing = section.timing.to_be_bytes()?;
+    Ok(Writable { section, timing })
 }
 
 // Bytes 1 and 2 of a section with a payload of so many bytes: bits 7, 5 and 4, and section_length, which counts all but
@@ -161,19 +169,23 @@ fn fill_part(part: &mut [u8], header: [u8; 12], payload: &[u8])
     closing.copy_from_slice(&crc_bytes(message));
 }
 
-// Lays a section to the beginning of a buffer, and answers its length.
-#[tactic(auto, using(crate::proofs::Laid::laid))]
-fn lay(buffer: &mut [u8], section: Section<'_>, timing: [u8; 4]) -> usize
-    requires timing { timing ≡ big_endian (real_time_word section.timing) }
-    requires payload { length section.payload.now ≤ 4080 }
-    requires buffer { length buffer.old ≡ 4096 }
-    ensures { Wrote (written_of section.entry) buffer.old buffer.new result }
-{
-    let size = section.payload.len();
-    let n = 16 + size;
-    let header = header_bytes(section.header, length_bytes(size), timing);
-    fill_part(&mut buffer[..n], header, section.payload);
-    n
+impl Writable<'_> {
+    // Lays the section to the beginning of a buffer, and answers its length.
+    #[tactic(auto, using(crate::proofs::Laid::laid))]
+    fn lay(self, buffer: &mut [u8]) -> usize
+        requires { length buffer.old ≡ 4096 }
+        ensures { Wrote (written_of self.entry.section) buffer.old buffer.new result }
+    {
+        let Section {
+            header,
+            payload,
+            timing: _,
+        } = self.section;
+        let n = 16 + payload.len();
+        let front = header_bytes(header, length_bytes(payload.len()), self.timing);
+        fill_part(&mut buffer[..n], front, payload);
+        n
+    }
 }
 
 // It answers a length beside the buffer, and no part of it: the caller lent the buffer and has it back whole.
@@ -187,6 +199,6 @@ pub fn write(section: Section<'_>, frame: FrameSize, buffer: &mut [u8]) -> Resul
     ensures stays { OnErr result (buffer.new ≡ buffer.old) }
     ensures back { IfOk result (λ n. ReadsAs frame.rows frame.check_columns (take n buffer.new) section.entry) }
 {
-    let timing = check(section, frame, buffer.len())?;
-    Ok(lay(buffer, section, timing))
+    let writable = check(section, frame, buffer.len())?;
+    Ok(writable.lay(buffer))
 }
