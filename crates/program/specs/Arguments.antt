@@ -1,8 +1,8 @@
 -- The arguments of a program that knows none but `--help`.
-use Rattle.std.specs.Prelude.{◌≡◌, ℕ, Bool, false, List, Some, None, codes, Option}
+use Rattle.std.specs.Prelude.{◌≡◌, ℕ, List, Some, None, codes, Option}
 use Rattle.std.specs.Borrow.{Bor}
 
--- the first argument is `--help`, and no more follow
-abbrev pub LoneHelp : (first : Option (Bor (List ℕ))) (more : Bool) → Type 0
-LoneHelp None more = ⊥
-LoneHelp (Some word) more = (word.now ≡ codes "--help") × (more ≡ false)
+-- the first argument is `--help`, and there is no second one
+abbrev pub LoneHelp : (first second : Option (Bor (List ℕ))) → Type 0
+LoneHelp None second = ⊥
+LoneHelp (Some word) second = (word.now ≡ codes "--help") × (second ≡ None)

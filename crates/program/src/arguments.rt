@@ -16,15 +16,15 @@ enum Request {
 #[error("these arguments are not known")]
 struct UnknownArguments;
 
-// What the arguments ask for: the first, where there is one, and whether more follow.
-fn asked_for(first: Option<&str>, more: bool) -> Result<Request, UnknownArguments>
+// What the first two arguments ask for.
+fn asked_for(first: Option<&str>, second: Option<&str>) -> Result<Request, UnknownArguments>
     ensures run { first.entry ≡ None → result ≡ Ok Request.Run }
-    ensures usage { LoneHelp first.entry more → result ≡ Ok Request.Usage }
-    ensures unknown { (first.entry ≢ None) → (LoneHelp first.entry more → ⊥) → IsErr result }
+    ensures usage { LoneHelp first.entry second.entry → result ≡ Ok Request.Usage }
+    ensures unknown { (first.entry ≢ None) → (LoneHelp first.entry second.entry → ⊥) → IsErr result }
 {
-    match (first, more) {
+    match (first, second) {
         (None, _) => Ok(Request::Run),
-        (Some("--help"), false) => Ok(Request::Usage),
+        (Some("--help"), None) => Ok(Request::Usage),
         _ => Err(UnknownArguments),
     }
 }
@@ -58,6 +58,6 @@ fn answer(
 pub fn asked_to_run(rt: &HostRuntime, usage: &str) -> anyhow::Result<bool> {
     let mut args = env::args(rt)?.skip(1);
     let first = args.next();
-    let more = args.next().is_some();
-    answer(rt, usage, asked_for(first.as_deref(), more))
+    let second = args.next();
+    answer(rt, usage, asked_for(first.as_deref(), second.as_deref()))
 }

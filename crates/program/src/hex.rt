@@ -15,7 +15,7 @@ pub enum HexError {
     NoMemory,
 }
 
-// Written by hand, since the clauses below name the error that a `?` makes of a refused allocation.
+// Written by hand: `thiserror` writes no contract, and the clause `refused` below needs to know that this is not `NotHex`.
 impl<T: Drop> From<AllocFailed<T>> for HexError {
     ghost from_gives = { λ _ r. r ≡ NoMemory };
 
