@@ -62,7 +62,7 @@ columns_of (Err e) = refusal_columns e
 abbrev pub line_of : (number offset n : ℕ) → Result Section Refusal → List ℕ
 line_of number offset n answer = beginning number offset n (kind_of answer) ++ columns_of answer
 
--- The line is that of the section s, read for a burst of 256 rows and 64 check columns, and tells of its kind.
+-- The line is that of the section s, read for a frame of 256 rows and 64 check columns, and tells of its kind.
 pub record Lists (number offset : ℕ) (s : List ℕ) (line : List ℕ) (listed : Option Kind) : Type 0 where
   -- what reading the section answers
   pub answer : Result Section Refusal

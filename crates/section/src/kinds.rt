@@ -16,7 +16,8 @@ pub enum Kind {
 
 impl Kind {
     /// The table_id that sections of this kind begin with.
-    // No `From`: `u8::from(kind)` would not say that it is a table_id.
+    // No `From`: `u8::from(kind)` would not say that it is a table_id. Nor a trait with `IpVersion::number`: it would be
+    // longer than both.
     pub fn table_id(self) -> u8
         ensures { result ≡ table_id_of self }
     {

@@ -171,7 +171,8 @@ impl Front {
         refuse_when(self.byte_7 != 0, Refusal::Field { place: 7 })
     }
 
-    // The kind of a section that begins so and that 4 to 9 do not turn away; `rest` is what follows its first 12 bytes.
+    // The kind of a section that begins so and that 4 to 9 do not turn away; `rest` is what follows its first 12 bytes, and
+    // comes beside `section` since the pattern that took the header apart has it already.
     fn check_envelope(self, section: &[u8], rest: &[u8]) -> Result<Kind, Refusal>
         requires { length section.now ≡ 12 + length rest.now }
         ensures { Obeys
@@ -189,7 +190,8 @@ impl Front {
         Ok(kind)
     }
 
-    // The header of a section of a kind that begins so, if 10 and 11 do not turn it away.
+    // The header of a section of a kind that begins so, if 10 and 11 do not turn it away. `address` beside `frame`: it is the
+    // section's, and that it fits the frame is what is tested.
     fn header(
         self,
         kind: Kind,
@@ -229,6 +231,7 @@ impl Front {
 
 /// The fields of a section for a frame of this size, or the first refusal of 4 to 11 that fits.
 /// Bytes of any length and content get an answer. Writing the fields gives the section again, in every bit that is read.
+// `frame` beside `section`: a section does not tell its frame.
 pub fn read(section: &[u8], frame: FrameSize) -> Result<Section<'_>, Refusal>
     ensures answer { Answers (read_rules frame.rows frame.check_columns section.now) (SectionOf section.now) result }
     ensures again { IfOk result (WrittenAgain frame.rows frame.check_columns section.now) }

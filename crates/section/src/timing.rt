@@ -55,6 +55,8 @@ impl RealTime {
             + self.address
     }
 
+    // `to_be_bytes` and `from_be_bytes`, and no `From`: so std calls this for numbers, and the first can refuse.
+
     /// The four bytes that hold the fields, as one big-endian number. Read back, they give these fields. An address of more
     /// than 18 bits is refused under 10 at byte 8, a delta_t of more than 12 bits under 15.
     pub fn to_be_bytes(self) -> Result<[u8; 4], Refusal>

@@ -29,7 +29,7 @@ mod tests {
     ];
 
     // Bits flipped in one byte, before the section is sealed or after, and the number and place of the refusal that this
-    // earns.
+    // earns: numbers, as the rules of the format have them, so that they are tested too.
     #[derive(Clone, Copy)]
     struct Damage {
         at: usize,

@@ -188,10 +188,11 @@ impl Writable<'_> {
     }
 }
 
-// It answers a length beside the buffer, and no part of it: the caller lent the buffer and has it back whole.
 /// Writes a section for a frame of this size to the beginning of a buffer of 4,096 bytes, and answers its length: exactly
 /// the bytes of the format; what stands behind them stays. It is refused under 10, 11 or 15, and then nothing is written.
 /// Reading what was written gives the same fields and payload.
+// A length, and no part of the buffer: a part would keep the buffer lent for as long as it is used.
+// `frame` beside `section`: that one fits the other is what is tested here.
 pub fn write(section: Section<'_>, frame: FrameSize, buffer: &mut [u8]) -> Result<usize, Refusal>
     ensures answer { Answers
         (write_rules frame.rows frame.check_columns section.entry.header section.entry.timing section.entry.payload.now (length buffer.old))

@@ -78,8 +78,8 @@ fn list<R: Read>(source: &mut Source<R>, out: &mut impl Write) -> io::Result<boo
     Ok(!source.window.held().is_empty())
 }
 
-fn run(rt: &HostRuntime) -> anyhow::Result<()> {
-    if !asked_to_run(rt, USAGE)? {
+fn main(rt: HostRuntime) -> anyhow::Result<()> {
+    if !asked_to_run(&rt, USAGE)? {
         return Ok(());
     }
     let mut out = BufWriter::new(rt.alloc(), rt.stdout())?;
@@ -90,8 +90,4 @@ fn run(rt: &HostRuntime) -> anyhow::Result<()> {
         rt.eprintln("sectionlist: the input goes on; only its first 20,000 sections are listed")?;
     }
     Ok(())
-}
-
-fn main(rt: HostRuntime) -> anyhow::Result<()> {
-    run(&rt)
 }

@@ -28,7 +28,7 @@ struct Description {
     payload: Vec<u8>,
 }
 
-// Not a `FromStr`: `IpVersion` belongs to another crate, and a line knows no words but these two.
+// Not a number that is turned into a version: a line knows no words but these two, and `04` is none of them.
 fn version_of(word: &str) -> anyhow::Result<IpVersion> {
     match word {
         "4" => Ok(IpVersion::V4),
@@ -46,8 +46,8 @@ fn flag_of(word: &str) -> anyhow::Result<bool> {
     }
 }
 
-// The words that the two kinds of section do not share: their names and headers. No `TryFrom`: both types that it gives
-// belong to another crate, and so does that of `timing_of`.
+// The words that the two kinds of section do not share: their names and headers. A datagram section is the same for every
+// frame. Not a `TryFrom`: the types belong to another crate, which knows nothing of these lines; so do those of `timing_of`.
 fn header_of(words: &[&str]) -> anyhow::Result<(Header, FrameSize)> {
     match words {
         ["datagram", mac_6, mac_5, version] => {
@@ -135,18 +135,14 @@ fn print_answers(rt: &HostRuntime, out: &mut impl Write) -> anyhow::Result<()> {
     Ok(())
 }
 
-fn run(rt: &HostRuntime) -> anyhow::Result<()> {
-    if !asked_to_run(rt, USAGE)? {
+fn main(rt: HostRuntime) -> anyhow::Result<()> {
+    if !asked_to_run(&rt, USAGE)? {
         return Ok(());
     }
     let mut out = BufWriter::new(rt.alloc(), rt.stdout())?;
-    let answered = print_answers(rt, &mut out);
+    let answered = print_answers(&rt, &mut out);
     out.flush()?;
     answered
-}
-
-fn main(rt: HostRuntime) -> anyhow::Result<()> {
-    run(&rt)
 }
 
 #[cfg(test)]

@@ -9,7 +9,7 @@ use octets::section_length;
 const MOST_PIECES: usize = 20_000;
 
 /// What stands at the front of the bytes that are held.
-// Three cases, so that neither `Option` nor `Result` has their shape.
+// Three cases, which neither `Option` nor `Result` has.
 #[derive(Clone, Copy, PartialEq, Eq, Debug)]
 pub enum Cut {
     /// The next piece: so many bytes from the first one held.
