@@ -1,10 +1,9 @@
 //! The line of a listing that tells what a section is, or why it is turned away.
 
-ghost use Rattle.std.specs.Prelude.{◌≡◌, ◌+◌, ◌-◌, ◌*◌, ◌^◌, ◌≤◌, ◌++◌, min, length, All, flat_map};
+ghost use Rattle.std.specs.Prelude.{◌≡◌, ◌+◌, ◌-◌, ◌^◌, ◌≤◌, ◌++◌, min, length, flat_map};
 ghost use Rattle.listing.specs.Lines.{kind_word, beginning, timing_columns, header_columns, refusal_columns, Lists};
-ghost use Rattle.listing.specs.Parts.{part_text, IsShort};
+ghost use Rattle.listing.specs.Parts.{HasRoom};
 
-use crate::parts::Part::{Number, Word};
 use crate::parts::{Part, put, wide};
 use refusal::Refusal;
 use section::{FrameSize, Header, Kind, RealTime, read};
@@ -44,63 +43,60 @@ fn word(kind: Option<Kind>) -> &'static str
 
 // What every line begins with.
 fn beginning_parts(position: Position, size: usize, kind: Option<Kind>) -> [Part; 5]
-    ensures text { flat_map part_text result ≡ beginning position.number position.offset size kind }
-    ensures short { All IsShort result }
+    ensures { flat_map (λ part. part) result ≡ beginning position.number position.offset size kind }
 {
     [
-        Number(position.number, 7),
-        Number(position.offset, 9),
-        Number(wide(size), 6),
-        Word(" ", 1),
-        Word(word(kind), 8),
+        Part::number(position.number, 7),
+        Part::number(position.offset, 9),
+        Part::number(wide(size), 6),
+        Part::word(" ", 1),
+        Part::word(word(kind), 8),
     ]
 }
 
 // The address, delta_t and the two boundaries.
 fn timing_parts(timing: RealTime) -> [Part; 4]
-    ensures text { flat_map part_text result ≡ timing_columns timing }
-    ensures short { All IsShort result }
+    ensures { flat_map (λ part. part) result ≡ timing_columns timing }
 {
     [
-        Number(u64::from(timing.address), 8),
-        Number(u64::from(timing.delta_t), 8),
-        Number(u64::from(timing.table_boundary), 3),
-        Number(u64::from(timing.frame_boundary), 3),
+        Part::number(u64::from(timing.address), 8),
+        Part::number(u64::from(timing.delta_t), 8),
+        Part::number(u64::from(timing.table_boundary), 3),
+        Part::number(u64::from(timing.frame_boundary), 3),
     ]
 }
 
 // The refusal's number, its layer and its place.
 fn refusal_parts(refusal: Refusal) -> [Part; 4]
-    ensures text { flat_map part_text result ≡ refusal_columns refusal }
-    ensures short { All IsShort result }
+    ensures { flat_map (λ part. part) result ≡ refusal_columns refusal }
 {
     [
-        Number(u64::from(refusal.number()), 3),
-        Word(" ", 1),
-        Word(refusal.layer().word(), 7),
-        Number(refusal.place(), 9),
+        Part::number(u64::from(refusal.number()), 3),
+        Part::word(" ", 1),
+        Part::word(refusal.layer().word(), 7),
+        Part::number(refusal.place(), 9),
     ]
 }
 
 // What the header says, and for a datagram its size: three parts at most.
 fn put_header(line: &mut Line, header: Header, size: usize)
-    requires { length line.old + 20 * 3 ≤ 256 }
+    requires { HasRoom 3 line.old }
     ensures { line.new ≡ line.old ++ header_columns header size }
 {
     match header {
         Header::Datagram(datagram) => put(
             line,
             &[
-                Number(u64::from(datagram.version.number()), 3),
-                Number(wide(size), 6),
+                Part::number(u64::from(datagram.version.number()), 3),
+                Part::number(wide(size), 6),
             ],
         ),
         Header::Check(check) => put(
             line,
             &[
-                Number(u64::from(check.number), 4),
-                Number(u64::from(check.last), 4),
-                Number(u64::from(check.padding_columns), 4),
+                Part::number(u64::from(check.number), 4),
+                Part::number(u64::from(check.last), 4),
+                Part::number(u64::from(check.padding_columns), 4),
             ],
         ),
     }

@@ -3,8 +3,7 @@
 ghost use Rattle.std.specs.Prelude.{◌≡◌};
 ghost use Rattle.listing.specs.Tallies.{empty_tally, one_more, counted, summary_of};
 
-use crate::parts::Part::{Number, Word};
-use crate::parts::put;
+use crate::parts::{Part, put};
 use section::Kind;
 use stream::columns::Line;
 
@@ -52,14 +51,14 @@ impl Tally {
         put(
             &mut line,
             &[
-                Word("sections ", 0),
-                Number(self.sections, 0),
-                Word(" datagram ", 0),
-                Number(self.datagrams, 0),
-                Word(" check ", 0),
-                Number(self.checks, 0),
-                Word(" refused ", 0),
-                Number(self.refused, 0),
+                Part::word("sections ", 0),
+                Part::number(self.sections, 0),
+                Part::word(" datagram ", 0),
+                Part::number(self.datagrams, 0),
+                Part::word(" check ", 0),
+                Part::number(self.checks, 0),
+                Part::word(" refused ", 0),
+                Part::number(self.refused, 0),
             ],
         );
         line

@@ -1,6 +1,9 @@
 //! Lists the sections that lie back to back on standard input: what each says, or why it is turned away.
 #![tactic(auto)]
 
+ghost use Rattle.std.specs.Prelude.{◌≡◌, ◌<◌, ◌⊎◌, true, length, OnOk};
+ghost use Rattle.std.specs.Io.{StartsWith};
+
 use listing::{Position, Tally, section_line};
 use program::asked_to_run;
 use std::io;
@@ -36,8 +39,13 @@ impl<R: Read> Source<R> {
         }
     }
 
-    // Reads on, at most a chunk, as far as the window has room.
-    fn fill(&mut self) -> io::Result<()> {
+    // Reads on, at most a chunk, as far as the window has room. It asks for room, since without it no byte would come,
+    // just as at the end.
+    fn fill(&mut self) -> io::Result<()>
+        requires { length self.old.window < 4098 }
+        ensures keeps { OnOk result (StartsWith self.new.window self.old.window) }
+        ensures goes_on { OnOk result ((self.new.ended ≡ true) ⊎ (length self.old.window < length self.new.window)) }
+    {
         let mut chunk = [0; CHUNK];
         let room = self.window.room().min(CHUNK);
         let count = self.input.read(&mut chunk[..room])?;
@@ -57,8 +65,7 @@ fn list<R: Read>(source: &mut Source<R>, out: &mut impl Write) -> io::Result<boo
     let mut cutter = Cutter::new();
     let mut tally = Tally::new();
     let mut position = Position::default();
-    // Each turn cuts a piece or reads on; the count is there only because every loop must be seen to end.
-    for _ in 0..u64::MAX {
+    loop {
         match cutter.next(source.window.held(), source.ended) {
             Cut::Piece(size) => {
                 let (line, kind) = section_line(position, &source.window.held()[..size]);

@@ -4,6 +4,7 @@ ghost use Rattle.std.specs.Prelude.{◌≡◌, ℕ, ◌+◌, ◌<◌, ◌≤◌,
 ghost use Rattle.stream.specs.Cut.{length_told, TooShort, TellsSize, Cuts, PiecesLaw, RunLaw};
 
 use octets::section_length;
+use std::marker::Model;
 
 /// At most so many pieces are cut off a stream.
 const MOST_PIECES: usize = 20_000;
@@ -26,11 +27,20 @@ pub struct Cutter {
     left: usize,
 }
 
+// Clauses see how many pieces may still be cut.
+impl Model for Cutter {
+    ghost use Rattle.std.specs.Prelude.{ℕ};
+
+    ghost Value = { ℕ };
+
+    ghost view = { λ cutter. cutter.left };
+}
+
 impl Cutter {
     /// At the beginning of a stream, with 20,000 pieces left to be cut. Calls of `next` then give the pieces of the
     /// stream, however much of it is held at each call.
     pub fn new() -> Cutter
-        ensures full { result.left ≡ 20000 }
+        ensures full { result ≡ 20000 }
         ensures law { PiecesLaw }
         ensures runs { RunLaw }
     {
@@ -41,7 +51,7 @@ impl Cutter {
     // A flag beside the bytes: an enum of the two would hold the same bytes in both cases.
     #[tactic(auto, using(crate::proofs::Fronts::cuts))]
     pub fn next(&mut self, held: &[u8], ended: bool) -> Cut
-        ensures cuts { Cuts held.now ended self.old.left self.new.left result }
+        ensures cuts { Cuts held.now ended self.old self.new result }
         ensures window { result ≡ Cut.More → length held.now < 4098 }
     {
         if self.left == 0 {

@@ -1,10 +1,10 @@
-use Rattle.std.proofs.Common.{◌≡◌, ◌+◌, ◌*◌, ◌≤◌, ◌++◌, length, take}
+use Rattle.std.proofs.Common.{◌≡◌, ◌++◌, take}
 use Rattle.std.specs.List.{flat_map}
-use Rattle.listing.specs.Parts.{part_text}
+use Rattle.listing.specs.Parts.{GrownBy}
 use Rattle.listing.proofs.parts.put.Given as goal
 
 abbrev pub invariant-loop-part : goal.invariant-loop-part
 invariant-loop-part l = record {
-  added : l.line ≡ l.initial.line ++ flat_map part_text (take l.part-index l.parts);
-  grown : length l.line ≤ length l.initial.line + 20 * l.part-index;
+  added : l.line ≡ l.initial.line ++ flat_map (λ part. part) (take l.part-index l.parts);
+  grown : GrownBy l.part-index l.initial.line l.line;
 }
