@@ -70,12 +70,11 @@ impl Line {
     }
 
     /// Appends the number, with blanks before it up to so many columns where it has fewer digits.
-    /// Where that does not fit the line, the text stays as it was. No number has more than 20 digits.
+    /// Where that does not fit the line, the text stays as it was.
     pub fn decimal(&mut self, number: u64, columns: usize) -> Result<(), CapacityError>
         ensures fits { IsOk result ↔ (length self.old + length (right_aligned columns number) ≤ 256) }
         ensures written { OnOk result (self.new ≡ self.old ++ right_aligned columns number) }
         ensures kept { OnErr result (self.new ≡ self.old) }
-        ensures few_digits { length (decimal number) ≤ 20 }
     {
         let mut buffer = Buffer::new();
         let digits = buffer.format(number).as_bytes();
