@@ -71,3 +71,26 @@ pub fn bytes_of(heap: Global, text: &str) -> Result<Vec<u8>, HexError>
         _ => read_digits(heap, text.as_bytes()),
     }
 }
+
+#[cfg(test)]
+mod tests {
+    use super::*;
+    use std::test::Fail;
+
+    #[test]
+    fn text_that_is_hex(rt: HostRuntime) -> Result<(), Fail> {
+        let bytes = bytes_of(rt.alloc(), "00AF91")?;
+        assert_eq!(rt; bytes.as_slice(), [0, 0xaf, 0x91].as_slice());
+        assert!(rt; bytes_of(rt.alloc(), "-")?.is_empty());
+        Ok(())
+    }
+
+    // The contract leaves open when memory lacks, and so which error it is.
+    #[test]
+    fn text_that_is_none(rt: HostRuntime) {
+        for text in ["", "4", "4G", "4a", "--", "4G4", "444"] {
+            let refused = matches!(bytes_of(rt.alloc(), text), Err(HexError::NotHex));
+            assert!(rt; refused, "{}", text);
+        }
+    }
+}
