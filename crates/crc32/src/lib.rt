@@ -6,11 +6,13 @@ ghost use Rattle.std.specs.Prelude.{◌≡◌};
 ghost use Rattle.crc32.specs.Crc.{ClosedBy, crc, crc_byte};
 
 // The register after one byte more.
+#[tactic(auto, using(crate::proofs::Linear::place_lt))]
 fn step(register: u32, byte: u8) -> u32
     ensures { result ≡ crc_byte register byte }
 {
-    let [highest, ..] = register.to_be_bytes();
-    TABLE[usize::from(byte ^ highest)] ^ (register << 8)
+    // `as`: `From` has no conversion from 32 bits, and by `to_be_bytes` this took a tenth longer.
+    let place = usize::from(byte) ^ (register >> 24) as usize;
+    TABLE[place] ^ (register << 8)
 }
 
 /// The CRC_32 of `bytes`. Followed by the four bytes of this number, the highest first, `bytes` has the CRC_32 0, and
