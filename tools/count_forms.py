@@ -72,32 +72,46 @@ def point_1(top):
          if re.search(r"-> \(?u8\b|\bnumber: u8|-> Option<usize>", signature)])
 
 
-def point_2(top):
-    print("2a: functions of the same shape: what is left when names of values, strings and numbers are struck out")
-    shapes = defaultdict(list)
+def alike(found):
+    """Says the places that have a shape in common, of (shape, what is said of it, place)."""
+    groups = defaultdict(list)
+    for shape, note, place in found:
+        groups[shape, note].append(place)
+    say([" ~ ".join(places) + note for (_, note), places in groups.items() if len(places) > 1])
+
+
+def bodies(top):
     for name, lines in sources(top):
-        for f, at, signature, _, body in functions(lines):
+        for f, at, _, _, body in functions(lines):
             text = " ".join(line.strip() for line in body if not line.strip().startswith("//"))
             shape = re.sub(r'b?"[^"]*"|\b\d[\w_]*|\b[a-z_]\w*|\b[A-Z]\w*', "_", text)
             if len(shape) > 3:
-                shapes[shape].append(f"{name}:{at} {f}")
-    say([" ~ ".join(places) for places in shapes.values() if len(places) > 1])
-    print("2b: structs whose fields have the same types, sizes aside")
-    shapes = defaultdict(list)
+                yield shape, "", f"{name}:{at} {f}"
+
+
+def structs(top):
     for name, lines in sources(top):
-        text = "\n".join(lines)
-        for struct in re.finditer(r"struct (\w+)[^{;]*\{(.*?)\n\s*\}", text, re.S):
+        for struct in re.finditer(r"struct (\w+)[^{;]*\{(.*?)\n\s*\}", "\n".join(lines), re.S):
             fields = re.findall(r"^\s*(?:pub(?:\(\w+\))? )?\w+: ([^,]+),", struct[2], re.M)
-            shapes[tuple(re.sub(r"; \w+\]", "; _]", f) for f in fields)].append(f"{name} {struct[1]}")
-    say([" ~ ".join(places) + f" {fields}" for fields, places in shapes.items() if len(places) > 1])
-    print("2c: numbers that have a name in more than one file")
-    names = defaultdict(list)
+            types = tuple(re.sub(r"; \w+\]", "; _]", f) for f in fields)
+            yield types, f" {types}", f"{name} {struct[1]}"
+
+
+def constants(top):
     for name, lines in sources(top):
         for line in lines:
             constant = re.match(r"\s*(?:pub(?:\(\w+\))? )?const (\w+): (\w+) = ([^;]+);", line)
             if constant:
-                names[constant.groups()].append(name)
-    say([f"{constant[0]} = {constant[2]}: " + ", ".join(places) for constant, places in names.items() if len(places) > 1])
+                yield constant.groups(), f": {constant[1]} = {constant[3]}", name
+
+
+def point_2(top):
+    print("2a: functions of the same shape: what is left when names of values, strings and numbers are struck out")
+    alike(bodies(top))
+    print("2b: structs whose fields have the same types, sizes aside")
+    alike(structs(top))
+    print("2c: numbers that have a name in more than one file")
+    alike(constants(top))
 
 
 def point_3(top):
