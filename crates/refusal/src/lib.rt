@@ -29,6 +29,7 @@ impl Layer {
     }
 }
 
+// By hand, as that of `Refusal`: `thiserror` would state nothing of the text.
 impl fmt::Display for Layer {
     ghost output = { λ layer. Some (layer_word layer) };
 

@@ -14,7 +14,8 @@ pub enum IpVersion {
 
 impl IpVersion {
     /// The number in the upper half of a datagram's first byte.
-    // No `From`: `u8::from(version)` would not say whose number it is.
+    // No `From`: `u8::from(version)` would not say whose number it is. Nor a trait with `Kind::table_id`: it would be longer
+    // than both.
     pub fn number(self) -> u8
         ensures { result ≡ version_number self }
     {

@@ -95,7 +95,8 @@ impl CheckHeader {
         refuse_when(!address_fits, Refusal::Field { place: 8 })
     }
 
-    // The header fits a frame of this size, its address, and the size of its payload.
+    // The header fits a frame of this size, its address, and the size of its payload. These two are the section's, and come
+    // beside the frame, since that they fit it is what is tested.
     fn check(self, frame: FrameSize, address: u32, size: usize) -> Result<(), Refusal>
         ensures { Obeys
             (column_rule frame.rows frame.check_columns self.padding_columns self.number self.last address size)

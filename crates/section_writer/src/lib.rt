@@ -44,7 +44,8 @@ fn column_size(frame: FrameSize, size: usize) -> bool
     size == frame.rows && size <= MAX_PAYLOAD
 }
 
-// The fields of a section that 10 and 11 do not turn away.
+// The fields of a section that 10 and 11 do not turn away. `frame` beside `section`, here and below: that one fits the other
+// is what is tested.
 fn check_fields(section: Section<'_>, frame: FrameSize) -> Result<(), Refusal>
     ensures { Obeys
         (first (write_field_rule frame.rows frame.check_columns section.entry.header section.entry.timing.address (length section.entry.payload.now)
@@ -170,7 +171,7 @@ fn fill_part(part: &mut [u8], header: [u8; 12], payload: &[u8])
 }
 
 impl Writable<'_> {
-    // Lays the section to the beginning of a buffer, and answers its length.
+    // Lays the section to the beginning of a buffer, and answers its length; no part of the buffer, as `write`.
     #[tactic(auto, using(crate::proofs::Laid::laid))]
     fn lay(self, buffer: &mut [u8]) -> usize
         requires { length buffer.old ≡ 4096 }
@@ -192,7 +193,6 @@ impl Writable<'_> {
 /// the bytes of the format; what stands behind them stays. It is refused under 10, 11 or 15, and then nothing is written.
 /// Reading what was written gives the same fields and payload.
 // A length, and no part of the buffer: a part would keep the buffer lent for as long as it is used.
-// `frame` beside `section`: that one fits the other is what is tested here.
 pub fn write(section: Section<'_>, frame: FrameSize, buffer: &mut [u8]) -> Result<usize, Refusal>
     ensures answer { Answers
         (write_rules frame.rows frame.check_columns section.entry.header section.entry.timing section.entry.payload.now (length buffer.old))

@@ -47,7 +47,7 @@ fn flag_of(word: &str) -> anyhow::Result<bool> {
 }
 
 // The words that the two kinds of section do not share: their names and headers. A datagram section is the same for every
-// frame. Not a `TryFrom`: the types belong to another crate, which knows nothing of these lines; so do those of `timing_of`.
+// frame. Not a `TryFrom`: the types belong to another crate, which knows nothing of these lines.
 fn header_of(words: &[&str]) -> anyhow::Result<(Header, FrameSize)> {
     match words {
         ["datagram", mac_6, mac_5, version] => {
@@ -74,6 +74,7 @@ fn header_of(words: &[&str]) -> anyhow::Result<(Header, FrameSize)> {
     }
 }
 
+// The words of the real-time parameters. Not a `TryFrom`, as `header_of`.
 fn timing_of(delta_t: &str, table: &str, frame: &str, address: &str) -> anyhow::Result<RealTime> {
     Ok(RealTime {
         delta_t: delta_t.parse()?,
