@@ -50,7 +50,8 @@ def parameters(signature):
     return re.findall(r"(?:mut )?(\w+): ", inner.split(" -> ")[0])
 
 
-def say(found):
+def say(title, found):
+    print(title)
     for line in found:
         print("   ", line)
     print(f"    = {len(found)}")
@@ -61,23 +62,26 @@ def lines_with(top, pattern):
             if re.search(pattern, line) and not line.strip().startswith("//")]
 
 
+def functions_with(top, test):
+    return [f"{name}:{at}: {signature}" for name, lines in sources(top) for f, at, signature, _, _ in functions(lines)
+            if test(f, signature)]
+
+
 def point_1(top):
-    print("1a: enums")
-    say(lines_with(top, r"^\s*(pub )?enum "))
-    print("1b: functions that answer by a flag, alone or in a Result")
-    say([f"{name}:{at}: {signature}" for name, lines in sources(top) for f, at, signature, _, _ in functions(lines)
-         if re.search(r"-> (\w+::)?(Result<)?bool\b", signature)])
-    print("1c: functions that answer or take a number that stands for a kind or a refusal")
-    say([f"{name}:{at}: {signature}" for name, lines in sources(top) for f, at, signature, _, _ in functions(lines)
-         if re.search(r"-> \(?u8\b|\bnumber: u8|-> Option<usize>", signature)])
+    say("1a: enums",
+        lines_with(top, r"^\s*(pub )?enum "))
+    say("1b: functions that answer by a flag, alone or in a Result",
+        functions_with(top, lambda f, signature: re.search(r"-> (\w+::)?(Result<)?bool\b", signature)))
+    say("1c: functions that answer or take a number that stands for a kind or a refusal",
+        functions_with(top, lambda f, signature: re.search(r"-> \(?u8\b|\bnumber: u8|-> Option<usize>", signature)))
 
 
-def alike(found):
+def alike(title, found):
     """Says the places that have a shape in common, of (shape, what is said of it, place)."""
     groups = defaultdict(list)
     for shape, note, place in found:
         groups[shape, note].append(place)
-    say([" ~ ".join(places) + note for (_, note), places in groups.items() if len(places) > 1])
+    say(title, [" ~ ".join(places) + note for (_, note), places in groups.items() if len(places) > 1])
 
 
 def bodies(top):
@@ -106,44 +110,43 @@ def constants(top):
 
 
 def point_2(top):
-    print("2a: functions of the same shape: what is left when names of values, strings and numbers are struck out")
-    alike(bodies(top))
-    print("2b: structs whose fields have the same types, sizes aside")
-    alike(structs(top))
-    print("2c: numbers that have a name in more than one file")
-    alike(constants(top))
+    alike("2a: functions of the same shape: what is left when names of values, strings and numbers are struck out",
+        bodies(top))
+    alike("2b: structs whose fields have the same types, sizes aside",
+        structs(top))
+    alike("2c: numbers that have a name in more than one file",
+        constants(top))
 
 
 def point_3(top):
-    print("3a: while and loop")
-    say(lines_with(top, r"\b(while|loop)\b.*\{$"))
-    print("3b: for over a range, or over places that enumerate or skip count")
-    say(lines_with(top, r"\bfor\b.*(\.\.[^\]]|enumerate|\.skip\().*\{$"))
-    print("3c: a number that the code moves on by itself")
-    say(lines_with(top, r"^\s*\*?[\w.]+ (\+=|-=|/=) |= \w+(\.\w+)*\.saturating_(add|sub)\("))
+    say("3a: while and loop",
+        lines_with(top, r"\b(while|loop)\b.*\{$"))
+    say("3b: for over a range, or over places that enumerate or skip count",
+        lines_with(top, r"\bfor\b.*(\.\.[^\]]|enumerate|\.skip\().*\{$"))
+    say("3c: a number that the code moves on by itself",
+        lines_with(top, r"^\s*\*?[\w.]+ (\+=|-=|/=) |= \w+(\.\w+)*\.saturating_(add|sub)\("))
 
 
 def point_4(top):
-    print("4a: numbers turned by `as`")
-    say(lines_with(top, r"\bas (u8|u16|u32|u64|u128|usize)\b"))
-    print("4b: functions that turn a value into another or into text, and what makes an empty value")
-    say([f"{name}:{at}: {signature}" for name, lines in sources(top) for f, at, signature, _, _ in functions(lines)
-         if re.search(r"^(from|of|to|as)_|_of$|^(word|text|number|layer|kind|table_id|fields|new|digit|byte)$", f)])
-    print("4c: impls written by hand")
-    say(lines_with(top, r"^\s*impl.* for "))
-    print("4d: equality by way of something else than the values, and bits that stand for a flag")
-    say(lines_with(top, r"\w+\(\) (==|!=) \w+\.\w+\(\)|if [\w.]+ \{ 1 << "))
+    say("4a: numbers turned by `as`",
+        lines_with(top, r"\bas (u8|u16|u32|u64|u128|usize)\b"))
+    say("4b: functions that turn a value into another or into text, and what makes an empty value",
+        functions_with(top, lambda f, signature: re.search(
+            r"^(from|of|to|as)_|_of$|^(word|text|number|layer|kind|table_id|fields|new|digit|byte)$", f)))
+    say("4c: impls written by hand",
+        lines_with(top, r"^\s*impl.* for "))
+    say("4d: equality by way of something else than the values, and bits that stand for a flag",
+        lines_with(top, r"\w+\(\) (==|!=) \w+\.\w+\(\)|if [\w.]+ \{ 1 << "))
 
 
 def point_5(top):
-    print("5a: parameters that three or more functions take together")
     sets = defaultdict(set)
     for name, lines in sources(top):
         for f, at, signature, _, _ in functions(lines):
             for pair in combinations(sorted(set(parameters(signature)) - {"rt", "self"}), 2):
                 sets[pair].add(f"{name.split('/')[1]}::{f}")
-    say([" with ".join(pair) + ": " + ", ".join(sorted(where)) for pair, where in sorted(sets.items()) if len(where) > 2])
-    print("5b: facts in a requires or an ensures of three or more functions, numbers struck out")
+    say("5a: parameters that three or more functions take together",
+        [" with ".join(pair) + ": " + ", ".join(sorted(where)) for pair, where in sorted(sets.items()) if len(where) > 2])
     facts = defaultdict(set)
     for name, lines in sources(top):
         for f, at, _, clauses, _ in functions(lines):
@@ -151,28 +154,26 @@ def point_5(top):
                 for fact in re.findall(r"(?:length )?\(?[\w. ()]+?\)? [≤<] [\w^. ]+", clause):
                     shape = re.sub(r"\b\d+\b", "N", re.sub(r"^(ensures|requires)?[\w ]*\{ ", "", fact)).strip("( ")
                     facts[re.sub(r"\.(now|old|new)", "", shape)].add(f"{name.split('/')[1]}::{f}")
-    say([f"{fact}: " + ", ".join(sorted(where)) for fact, where in sorted(facts.items()) if len(where) > 2])
-    print("5c: functions with five parameters or more")
-    say([f"{name}:{at}: {signature}" for name, lines in sources(top) for f, at, signature, _, _ in functions(lines)
-         if len(parameters(signature)) + ("self" in signature) > 4])
+    say("5b: facts in a requires or an ensures of three or more functions, numbers struck out",
+        [f"{fact}: " + ", ".join(sorted(where)) for fact, where in sorted(facts.items()) if len(where) > 2])
+    say("5c: functions with five parameters or more",
+        functions_with(top, lambda f, signature: len(parameters(signature)) + ("self" in signature) > 4))
 
 
 def point_6(top):
-    print("6a: a length, a place or a count beside what it is of, in a struct or among the parameters")
-    say(lines_with(top, r"^\s*(pub(\(\w+\))? )?(len|length|count|size|at|place|end): usize,")
-        + [f"{name}:{at}: {signature}" for name, lines in sources(top) for f, at, signature, _, _ in functions(lines)
-           if {"len", "length", "count", "place", "end"} & set(parameters(signature))])
-    print("6b: an array of fixed size held in a struct")
-    say(lines_with(top, r"^\s*(pub(\(\w+\))? )?\w+: \[\w+; \w+\],"))
+    say("6a: a length, a place or a count beside what it is of, in a struct or among the parameters",
+        lines_with(top, r"^\s*(pub(\(\w+\))? )?(len|length|count|size|at|place|end): usize,")
+        + functions_with(top, lambda f, signature: {"len", "length", "count", "place", "end"} & set(parameters(signature))))
+    say("6b: an array of fixed size held in a struct",
+        lines_with(top, r"^\s*(pub(\(\w+\))? )?\w+: \[\w+; \w+\],"))
 
 
 def point_7(top):
-    print("7: function pointers, dyn, closures, and a flag or an enum that a caller passes to choose a step")
-    say(lines_with(top, r"\bfn\(|\bdyn\b|\|\w*\||: bool[,)]"))
+    say("7: function pointers, dyn, closures, and a flag or an enum that a caller passes to choose a step",
+        lines_with(top, r"\bfn\(|\bdyn\b|\|\w*\||: bool[,)]"))
 
 
 def point_8(top):
-    print("8: proof files and their lines, by crate")
     names = subprocess.run(["git", "ls-files", "crates/*/proofs/*"], cwd=top, text=True, check=True, capture_output=True)
     sizes = defaultdict(lambda: [0, 0, 0])
     for name in names.stdout.split():
@@ -180,7 +181,8 @@ def point_8(top):
         sizes[name.split("/")[1]][0] += 1
         sizes[name.split("/")[1]][1] += text.count("\n")
         sizes[name.split("/")[1]][2] += len(re.findall(r"^pub [\w-]+ : goal\.", text, re.M)) if "Answers" in name else 0
-    say([f"{crate}: {files} files, {lines} lines, {answers} answers" for crate, (files, lines, answers) in sizes.items()])
+    say("8: proof files and their lines, by crate",
+        [f"{crate}: {files} files, {lines} lines, {answers} answers" for crate, (files, lines, answers) in sizes.items()])
 
 
 def main():
