@@ -376,6 +376,9 @@ TIMINGS = [dict(delta_t=delta_t, tb=tb, fb=fb)
            for delta_t in (0, 1, 500, 4095) for tb in (0, 1) for fb in (0, 1)]
 MACS = [dict(mac6=a, mac5=b) for a in (0, 255, 0x0E, 0x17) for b in (0, 255, 0x0E, 0x17)]
 MOST = 2 ** 18 - 1                           # the highest address
+# The fields that may have any value of so many bits.
+WIDTHS = {"datagram": dict(mac6=8, mac5=8, delta_t=12, tb=1, fb=1, address=18),
+          "check": dict(delta_t=12, tb=1, fb=1)}
 
 # The ways to break a rule: what is refused, and the numbers that do it. A
 # payload is named by what is wrong with it.
@@ -484,6 +487,17 @@ def descriptions():
                 datagram(good, which[0], **wrong)
             else:
                 check(16, 5, outcome=which[0], **dict(p=7) | wrong)
+
+    # Each bit of each field as the only 1, and as the only 0.
+    for kind, widths in WIDTHS.items():
+        for name, width in widths.items():
+            for bit, ones in itertools.product(range(width), (0, -1)):
+                field = {each: ones % 2 ** widths[each] for each in widths}
+                field[name] ^= 1 << bit
+                if kind == "datagram":
+                    datagram(good, **field)
+                else:
+                    check(16, 5, **field)
     return out
 
 

@@ -2,8 +2,11 @@
 """tshark_compare.py FILE [headers]: hold the reference's listing of a file of
 sections against tshark, Wireshark's dissector of DVB MPE. Each section is laid
 into 188-byte transport stream packets of one PID, and these into a capture
-file (link type 243, MPEG-2 TS), which tshark puts together and dissects.
-With `headers` the datagrams are not looked into (they need not be UDP).
+file (link type 243, MPEG-2 TS), which tshark puts together and dissects. It has
+no dissector for MPE-FEC sections, whose fields stand where datagram sections
+have theirs: each is shown once more with the table_id of a datagram section and
+the CRC_32 of that. With `headers` the datagrams are not looked into (they need
+not be UDP).
 Ends with status 1 on a difference. Other comparisons use its functions."""
 import json
 import struct
@@ -13,6 +16,7 @@ import tempfile
 
 sys.dont_write_bytecode = True
 import reference_list as reference
+from reference_write import sealed
 
 PID = 0x100
 
@@ -61,29 +65,33 @@ def number(fields, name):
     return int(fields.get(name, "-1"), 0)
 
 
-def pairs(want, layers):
+def pairs(section, want, layers):
     """(what, here, tshark's) for all that is compared of one section. `want` has
-    what must stand in it, by name; delta_t only where it is a good datagram
-    section, payload only where its datagram is to be looked into."""
+    what must stand in it, by name: front (bytes 3 to 7) and the real-time
+    parameters of one that is good, version and payload of a datagram that is to
+    be looked into."""
     head = layer(layers, "dvb_data_mpe" if want["table_id"] == 0x3E else "mpeg_sect")
     yield "table_id", want["table_id"], number(head, "mpeg_sect.tid")
     yield "section_length", want["section_length"], number(head, "mpeg_sect.len")
     yield "syntax indicator", 1, number(head, "mpeg_sect.syntax_indicator")
     yield "private and reserved bits", want["bits"], number(head, "mpeg_sect.reserved")
-    yield "CRC_32", want["crc"], number(head, "mpeg_sect.crc")
-    yield "CRC status", want["crc_status"], number(head, "mpeg_sect.crc.status")
-    if "delta_t" not in want:
+    if want["crc_status"] is not None:
+        yield "CRC_32", int.from_bytes(section[-4:], "big"), number(head, "mpeg_sect.crc")
+        yield "CRC status", want["crc_status"], number(head, "mpeg_sect.crc.status")
+    if want["table_id"] != 0x3E or "front" not in want:
         return
-    yield "reserved bits", 3, number(head, "dvb_data_mpe.reserved")
-    yield "payload scrambling", 0, number(head, "dvb_data_mpe.pload_scrambling")
-    yield "address scrambling", 0, number(head, "dvb_data_mpe.addr_scrambling")
-    yield "LLC_SNAP_flag", 0, number(head, "dvb_data_mpe.llc_snap_flag")
-    yield "current_next_indicator", 1, number(head, "mpeg_sect.cur_next_ind")
-    yield "section_number", 0, number(head, "dvb_data_mpe.sect_num")
-    yield "last_section_number", 0, number(head, "dvb_data_mpe.last_sect_num")
+    byte_3, byte_4, byte_5, byte_6, byte_7 = want["front"]
+    yield "reserved bits", byte_5 >> 6, number(head, "dvb_data_mpe.reserved")
+    yield "payload scrambling", byte_5 >> 4 & 3, number(head, "dvb_data_mpe.pload_scrambling")
+    yield "address scrambling", byte_5 >> 2 & 3, number(head, "dvb_data_mpe.addr_scrambling")
+    yield "LLC_SNAP_flag", byte_5 >> 1 & 1, number(head, "dvb_data_mpe.llc_snap_flag")
+    yield "current_next_indicator", byte_5 & 1, number(head, "mpeg_sect.cur_next_ind")
+    yield "section_number", byte_6, number(head, "dvb_data_mpe.sect_num")
+    yield "last_section_number", byte_7, number(head, "dvb_data_mpe.last_sect_num")
     # tshark shows MAC_address_1 to 6; in DVB-H 4, 3, 2, 1 are bytes 8 to 11.
-    mac = bytes.fromhex(head.get("dvb_data_mpe.dst_mac", "").replace(":", ""))
-    yield "MAC_address_6 and 5", want["mac"], mac[:3:-1]
+    name = "dvb_data_mpe.dst_mac" + (".scrambled" if byte_5 >> 2 & 3 else "")
+    mac = bytes.fromhex(head.get(name, "").replace(":", ""))
+    yield "bytes 3 and 4", bytes([byte_3, byte_4]), mac[:3:-1]
     word = int.from_bytes(mac[3::-1], "big")
     yield "address", want["address"], word & 0x3FFFF
     yield "delta_t", want["delta_t"], word >> 20
@@ -111,6 +119,16 @@ def datagram_pairs(version, payload, layers):
     yield "datagram bytes", payload, bytes.fromhex("".join(parts))
 
 
+def showings(kind, section, want):
+    """What tshark is shown of a section; a check section a second time, with the
+    table_id of a datagram section and the CRC_32 of that, which is not compared:
+    tshark may take the column for a broken datagram, and stop before it."""
+    yield kind, section, want
+    if kind == "check":
+        as_datagram = sealed(b"\x3E" + section[1:-4])
+        yield "check as datagram", as_datagram, want | {"table_id": 0x3E, "crc_status": None}
+
+
 class Comparisons:
     """Counts what was compared, by the kind of section, and says what differs."""
 
@@ -133,12 +151,13 @@ class Comparisons:
     def tshark(self, cases):
         """Show tshark the sections, and compare: cases has (name, kind, section, want)."""
         packets, ends = [], []
-        for name, kind, section, want in cases:
-            packets += ts_packets(section, len(packets))
-            ends.append((len(packets), name, kind, want))
+        for name, *case in cases:
+            for kind, section, want in showings(*case):
+                packets += ts_packets(section, len(packets))
+                ends.append((len(packets), name, kind, section, want))
         shown = dissected(packets)
-        for end, name, kind, want in ends:
-            self.section(name, kind, "tshark", pairs(want, shown.get(end, {})))
+        for end, name, kind, section, want in ends:
+            self.section(name, kind, "tshark", pairs(section, want, shown.get(end, {})))
         if len(shown) != len(ends):
             self.differs(f"sections laid in: {len(ends)}, seen by tshark: {len(shown)}")
 
@@ -148,22 +167,26 @@ class Comparisons:
             print(f"{len(self.sections[kind])} sections '{kind}', by {by}: "
                   + ", ".join(f"{what} {n}" for what, n in fields.items()))
         total = sum(n for fields in self.compared.values() for n in fields.values())
-        print(f"in all: {sum(map(len, self.sections.values()))} sections, "
+        print(f"in all: {len(set().union(*self.sections.values()))} sections, "
               f"{total} comparisons, {self.differences} differences")
         return 1 if self.differences or not self.sections.get("datagram") else 0
 
 
 def listed(section, columns, headers):
-    """What the listing says of a section; its own bytes where there is no column for that."""
-    want = {"table_id": section[0], "section_length": int(columns[2]) - 3,
-            "bits": section[1] >> 4 & 7, "crc": int.from_bytes(section[-4:], "big"),
-            "crc_status": 0 if columns[3:5] == ["refused", "9"] else 1}
-    if columns[3] == "datagram":
-        address, delta_t, tb, fb, version, size = map(int, columns[4:])
-        want.update(mac=section[3:5], address=address, delta_t=delta_t, tb=tb, fb=fb)
-        if not headers:
-            want.update(version=version, payload=section[12:12 + size])
-    return want
+    """(kind, what must stand in a section) by its line in the listing, and by its
+    own bytes where there is no column for that."""
+    kind, size = columns[3], int(columns[2])
+    want = {"table_id": section[0], "section_length": size - 3, "bits": section[1] >> 4 & 7, "crc_status": 1}
+    if kind == "refused":
+        return f"refused {columns[4]}", want | {"crc_status": int(columns[4] != "9")}
+    address, delta_t, tb, fb, *own = map(int, columns[4:])
+    want.update(address=address, delta_t=delta_t, tb=tb, fb=fb)
+    if kind == "check":
+        s, last, p = own
+        return kind, want | {"front": bytes([p, *section[4:6], s, last])}
+    version, length = own
+    want["front"] = section[3:8]
+    return kind, want if headers else want | {"version": version, "payload": section[12:12 + length]}
 
 
 def main(name, headers):
@@ -175,8 +198,8 @@ def main(name, headers):
         if columns[3] == "refused" and columns[4] not in ("9", "10"):
             left_out += 1     # layout broken (below 9), or a broken datagram, at which
             continue          # tshark may stop before it comes to the CRC (11)
-        kind = " ".join(columns[3:5]) if columns[3] == "refused" else columns[3]
-        cases.append((f"section {columns[0]}", kind, section, listed(section, columns, headers)))
+        kind, want = listed(section, columns, headers)
+        cases.append((f"section {columns[0]}", kind, section, want))
     comparisons = Comparisons()
     comparisons.tshark(cases)
     if left_out:

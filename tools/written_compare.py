@@ -1,10 +1,10 @@
 #!/usr/bin/python3
 """written_compare.py LINES SECTIONS: hold what sectionwrite printed (SECTIONS)
 against the descriptions that it was given (LINES). tshark dissects every
-section, and crcmod gives its checksum. The payloads, and the fields of MPE-FEC
-sections, for which tshark has no dissector, are read from the bytes here. What
-was refused is held against the reference. Ends with status 1 on a difference,
-2 if tshark or crcmod is missing."""
+section, MPE-FEC sections as tshark_compare.py shows them, and crcmod gives its
+checksum. The payloads are compared here, too: tshark shows just those that it
+can look into. What was refused is held against the reference. Ends with status 1
+on a difference, 2 if tshark or crcmod is missing."""
 import shutil
 import struct
 import sys
@@ -15,15 +15,16 @@ import reference_write as writer
 from tshark_compare import Comparisons
 
 
-def wanted(kind, field, payload, crc):
+def wanted(kind, field, payload):
     """What tshark must show of the section that a line describes."""
-    want = {"table_id": 0x3E if kind == "datagram" else 0x78, "section_length": 13 + len(payload),
-            "bits": 3, "crc": crc, "crc_status": 1}
-    if kind == "datagram":
-        want.update({name: field[name] for name in writer.TIMING},
-                    mac=bytes([field["mac6"], field["mac5"]]))
-        if looked_into(field["version"], payload):
-            want.update(version=field["version"], payload=payload)
+    want = {name: field[name] for name in writer.TIMING}
+    want.update(section_length=13 + len(payload), bits=3, crc_status=1)
+    if kind == "check":
+        front = bytes([field["p"], 0xFF, 0xFF, field["s"], field["last"]])
+        return want | {"table_id": 0x78, "front": front}
+    want.update(table_id=0x3E, front=bytes([field["mac6"], field["mac5"], 0xC1, 0, 0]))
+    if looked_into(field["version"], payload):
+        want.update(version=field["version"], payload=payload)
     return want
 
 
@@ -49,20 +50,6 @@ def checksum_pairs(section):
     yield "CRC over all", 0, reference.crc32(section)
 
 
-def byte_pairs(kind, field, payload, section):
-    """(what, described, read); of a datagram section tshark reads all but the payload."""
-    yield "payload", payload, section[12:-4]
-    if kind == "datagram":
-        return
-    yield "bytes 0 to 2", struct.pack(">BH", 0x78, 0xB000 | 13 + len(payload)), section[:3]
-    yield "padding_columns", field["p"], section[3]
-    yield "bytes 4 and 5", b"\xFF\xFF", section[4:6]
-    yield "section_number", field["s"], section[6]
-    yield "last_section_number", field["last"], section[7]
-    for name, read in zip(writer.TIMING, reference.timing(section)):
-        yield name, field[name], read
-
-
 def main(lines, sections):
     with open(lines) as file:
         given = file.read().splitlines()
@@ -83,8 +70,8 @@ def main(lines, sections):
             comparisons.differs(f"{name}: no section in hex: {answer}")
             continue
         comparisons.section(name, kind, reference.CRC_BY, checksum_pairs(section))
-        comparisons.section(name, kind, "its bytes", byte_pairs(kind, field, payload, section))
-        want = wanted(kind, field, payload, int.from_bytes(section[-4:], "big"))
+        comparisons.section(name, kind, "its bytes", [("payload", payload, section[12:-4])])
+        want = wanted(kind, field, payload)
         shut += kind == "datagram" and "payload" not in want
         cases.append((name, kind, section, want))
     missing = [] if reference.CRC_BY == "crcmod" else ["crcmod"]
