@@ -1,16 +1,16 @@
 //! Sections on the air, written: every byte from the fields, into a lent buffer.
 #![tactic(auto)]
 
-ghost use Rattle.std.specs.Prelude.{◌≡◌, ◌+◌, ◌*◌, ◌^◌, ◌≤◌, not, ◌&&◌, [], ◌∷◌, ◌++◌, length, take, drop, IfOk, OnOk, OnErr, ◌==◌, nat_le, nat_lt};
+ghost use Rattle.std.specs.Prelude.{◌≡◌, ◌+◌, ◌*◌, ◌^◌, ◌≤◌, not, ◌&&◌, [], ◌∷◌, ◌++◌, length, take, IfOk, OnOk, OnErr, ◌==◌, nat_le, nat_lt};
 ghost use Rattle.crc32.specs.Crc.{crc, big_endian};
 ghost use Rattle.refusal.specs.declared.Refusal.TheVariants.{NotOneDatagram, Unwritable};
 ghost use Rattle.refusal.specs.Rules.{Answers, Obeys, first, when};
 ghost use Rattle.section.specs.Datagrams.{whole_as};
 ghost use Rattle.section.specs.Laws.{ReadsAs};
 ghost use Rattle.section.specs.RealTimes.{real_time_word};
-ghost use Rattle.section.specs.Layout.{bytes_of_length, bytes_of_kind, with_crc, written_of};
+ghost use Rattle.section.specs.Layout.{bytes_of_length, bytes_of_kind, header_bytes, with_crc, written_of};
 ghost use Rattle.section.specs.Writing.{write_field_rule, write_payload_rule, write_rules};
-ghost use Rattle.section_writer.specs.Buffers.{Wrote, before_payload};
+ghost use Rattle.section_writer.specs.Buffers.{Wrote};
 
 use crc32::crc_32;
 use refusal::{Refusal, refuse_when};
@@ -119,29 +119,6 @@ fn kind_bytes(header: Header) -> [u8; 5]
     }
 }
 
-// The twelve bytes in front of a payload, of which bytes 1 and 2 and the last four are given.
-fn header_bytes(header: Header, length: [u8; 2], timing: [u8; 4]) -> [u8; 12]
-    ensures { result ≡ before_payload header length timing }
-{
-    let [length_1, length_2] = length;
-    let [kind_1, kind_2, kind_3, kind_4, kind_5] = kind_bytes(header);
-    let [t0, t1, t2, t3] = timing;
-    [
-        header.kind().table_id(),
-        length_1,
-        length_2,
-        kind_1,
-        kind_2,
-        kind_3,
-        kind_4,
-        kind_5,
-        t0,
-        t1,
-        t2,
-        t3,
-    ]
-}
-
 // The CRC_32 of a message, as it is written behind it.
 fn crc_bytes(message: &[u8]) -> [u8; 4]
     ensures { result ≡ big_endian (crc message.now) }
@@ -171,20 +148,39 @@ fn fill_part(part: &mut [u8], header: [u8; 12], payload: &[u8])
 }
 
 impl Writable<'_> {
+    // The twelve bytes in front of the payload.
+    fn header_bytes(self) -> [u8; 12]
+        ensures { result ≡ header_bytes self.entry.section.header self.entry.section.timing (length self.entry.section.payload.now) }
+    {
+        let header = self.section.header;
+        let [length_1, length_2] = length_bytes(self.section.payload.len());
+        let [kind_1, kind_2, kind_3, kind_4, kind_5] = kind_bytes(header);
+        let [t0, t1, t2, t3] = self.timing;
+        [
+            header.kind().table_id(),
+            length_1,
+            length_2,
+            kind_1,
+            kind_2,
+            kind_3,
+            kind_4,
+            kind_5,
+            t0,
+            t1,
+            t2,
+            t3,
+        ]
+    }
+
     // Lays the section to the beginning of a buffer, and answers its length; no part of the buffer, as `write`.
     #[tactic(auto, using(crate::proofs::Laid::laid))]
     fn lay(self, buffer: &mut [u8]) -> usize
         requires { length buffer.old ≡ 4096 }
         ensures { Wrote (written_of self.entry.section) buffer.old buffer.new result }
     {
-        let Section {
-            header,
-            payload,
-            timing: _,
-        } = self.section;
+        let payload = self.section.payload;
         let n = 16 + payload.len();
-        let front = header_bytes(header, length_bytes(payload.len()), self.timing);
-        fill_part(&mut buffer[..n], front, payload);
+        fill_part(&mut buffer[..n], self.header_bytes(), payload);
         n
     }
 }
