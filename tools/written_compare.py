@@ -2,9 +2,10 @@
 """written_compare.py LINES SECTIONS: hold what sectionwrite printed (SECTIONS)
 against the descriptions that it was given (LINES). tshark dissects every
 section, MPE-FEC sections as tshark_compare.py shows them, and crcmod gives its
-checksum. The payloads are compared here, too: tshark shows just those that it
-can look into. What was refused is held against the reference. Ends with status 1
-on a difference, 2 if tshark or crcmod is missing."""
+checksum. The payloads, of which tshark shows only those that it can look into,
+and the fields of MPE-FEC sections as they are, are read from the bytes here.
+What was refused is held against the reference. Ends with status 1 on a
+difference, 2 if tshark or crcmod is missing."""
 import shutil
 import struct
 import sys
@@ -50,6 +51,20 @@ def checksum_pairs(section):
     yield "CRC over all", 0, reference.crc32(section)
 
 
+def byte_pairs(kind, field, payload, section):
+    """(what, described, read); of a datagram section tshark reads all but the payload."""
+    yield "payload", payload, section[12:-4]
+    if kind == "datagram":
+        return
+    yield "bytes 0 to 2", struct.pack(">BH", 0x78, 0xB000 | 13 + len(payload)), section[:3]
+    yield "padding_columns", field["p"], section[3]
+    yield "bytes 4 and 5", b"\xFF\xFF", section[4:6]
+    yield "section_number", field["s"], section[6]
+    yield "last_section_number", field["last"], section[7]
+    for name, read in zip(writer.TIMING, reference.timing(section)):
+        yield name, field[name], read
+
+
 def main(lines, sections):
     with open(lines) as file:
         given = file.read().splitlines()
@@ -70,7 +85,7 @@ def main(lines, sections):
             comparisons.differs(f"{name}: no section in hex: {answer}")
             continue
         comparisons.section(name, kind, reference.CRC_BY, checksum_pairs(section))
-        comparisons.section(name, kind, "its bytes", [("payload", payload, section[12:-4])])
+        comparisons.section(name, kind, "its bytes", byte_pairs(kind, field, payload, section))
         want = wanted(kind, field, payload)
         shut += kind == "datagram" and "payload" not in want
         cases.append((name, kind, section, want))
