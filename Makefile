@@ -9,6 +9,6 @@ demo:
 test:
 	@.ci/run
 
-# Compares the stored test files and what sectionwrite writes live with programs of others, and installs these from Debian's packages.
+# Holds the stored test files, and what sectionwrite writes, against programs of others, which it installs from Debian's packages.
 outside:
 	@tools/check_outside.sh

@@ -92,7 +92,10 @@ decode_written() {
     fi
     $program < $lines > "$new/written" || differs "sectionwrite did not end well"
     "$python" tools/written_compare.py $lines "$new/written"
-    [ $? != 1 ] || differs "what sectionwrite writes of $lines"
+    case $? in
+        0 | 2) ;;       # 2: tshark or crcmod was not to be had, as was said above
+        *) differs "what sectionwrite writes of $lines" ;;
+    esac
 }
 say "== What sectionwrite writes of crates/sectionwrite/stdin, decoded"
 decode_written

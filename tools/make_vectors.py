@@ -380,8 +380,7 @@ MOST = 2 ** 18 - 1                           # the highest address
 WIDTHS = {"datagram": dict(mac6=8, mac5=8, delta_t=12, tb=1, fb=1, address=18),
           "check": dict(delta_t=12, tb=1, fb=1)}
 
-# The ways to break a rule: what is refused, and the numbers that do it. A
-# payload is named by what is wrong with it.
+# The ways to break a rule of writing: the refusal, and the numbers or the payload that earn it.
 WRITE_CAUSES = {
     "datagram": {(10, "section", 8): dict(address=MOST + 1),
                  (11, "section", 12): dict(version=6),
@@ -553,6 +552,7 @@ read = ""
 for kind, field, payload, outcome in descriptions():
     assert writer.refusal(kind, field, payload) == outcome, (kind, field, outcome)
     read += writer.line(kind, field, payload) + "\n"
+read = read[:-1] + "\r\n"                  # a carriage return makes no difference
 told = writer.answers(read)
 assert len(read) + len(told) < 400000
 store("crates/sectionwrite/stdin", read.encode())

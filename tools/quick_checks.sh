@@ -49,11 +49,11 @@ def lines(name):
 
 vectors = lines("crates/section_vectors/stdout")
 given = lines("crates/section_vectors/stdin")
-result(len(vectors) > 90 and [row.split(" ")[0] for row in vectors] == given,
+result([row.split(" ")[0] for row in vectors] == given,
        f"crates/section_vectors, {len(vectors)} lines in and out")
 described = lines("crates/sectionwrite/stdin")
 written = lines("crates/sectionwrite/stdout")
-result(len(described) == len(written) > 400, f"crates/sectionwrite, {len(written)} lines in and out")
+result(len(described) == len(written), f"crates/sectionwrite, {len(written)} lines in and out")
 for crc, by in {reference.crc32: reference.CRC_BY,
                 reference.crc32_bitwise: "the bitwise function"}.items():
     reference.crc32 = crc
@@ -67,11 +67,15 @@ for crc, by in {reference.crc32: reference.CRC_BY,
            f"the reference writes crates/sectionwrite/stdin as crates/sectionwrite/stdout, CRC_32 by {by}")
 
 def edits():
-    """(name, whether its old text stands just once in its file) for each must-fail edit."""
+    """(name, whether each old text stands just once in its file) for each must-fail edit."""
     for name in sorted(glob.glob("crates/*/must-fail/*.edit")):
-        field = dict(row.split(": ", 1) for row in lines(name))
-        with open(os.path.join(name.split("/must-fail/")[0], field["file"])) as file:
-            yield name, file.read().count(field["old"]) == 1 and field["old"] != field["new"]
+        file, *rows = (row.split(": ", 1) for row in lines(name))
+        pairs = list(zip(rows[::2], rows[1::2]))
+        with open(os.path.join(name.split("/must-fail/")[0], file[1])) as source:
+            text = source.read()
+        yield name, file[0] == "file" and 0 < len(rows) == 2 * len(pairs) and all(
+            old[0] == "old" and new[0] == "new" and text.count(old[1]) == 1 and old[1] != new[1]
+            for old, new in pairs)
 
 unfit = [name for name, fits in edits() if not fits]
 result(not unfit, "each must-fail edit fits its source" + "".join(" " + name for name in unfit))
@@ -79,7 +83,11 @@ result(not unfit, "each must-fail edit fits its source" + "".join(" " + name for
 with open("samples/burst.bin", "rb") as file:
     shown = "".join("    " + row + "\n" for row in reference.listing(file.read()).splitlines())
 with open("README.md") as file:
-    result(shown in file.read(), "README shows the listing of samples/burst.bin")
+    readme = file.read()
+result(shown in readme, "README shows the listing of samples/burst.bin")
+listed = lines("crates/sectionlist/stdout")[-1].split(" ")[1]
+told = [f"{listed} ordinary and hostile", f"{len(written)} lines", f"{len(vectors)} stored byte strings"]
+result(all(words in readme for words in told), "README tells how many stored: " + ", ".join(told))
 sys.exit(bad)
 EOF
 [ $? = 0 ] || status=1

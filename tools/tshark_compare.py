@@ -66,15 +66,16 @@ def number(fields, name):
 
 
 def pairs(section, want, layers):
-    """(what, here, tshark's) for all that is compared of one section. `want` has
-    what must stand in it, by name: front (bytes 3 to 7) and the real-time
-    parameters of one that is good, version and payload of a datagram that is to
-    be looked into."""
+    """(what, wanted, tshark's) for all that is compared of one section. `want` has
+    what must stand in it, by name: table_id, section_length, private_and_reserved
+    and crc_status (None: not compared) of any; front (bytes 3 to 7) and the
+    real-time parameters of one that is good; version and payload of a datagram
+    that is to be looked into."""
     head = layer(layers, "dvb_data_mpe" if want["table_id"] == 0x3E else "mpeg_sect")
     yield "table_id", want["table_id"], number(head, "mpeg_sect.tid")
     yield "section_length", want["section_length"], number(head, "mpeg_sect.len")
     yield "syntax indicator", 1, number(head, "mpeg_sect.syntax_indicator")
-    yield "private and reserved bits", want["bits"], number(head, "mpeg_sect.reserved")
+    yield "private and reserved bits", want["private_and_reserved"], number(head, "mpeg_sect.reserved")
     if want["crc_status"] is not None:
         yield "CRC_32", int.from_bytes(section[-4:], "big"), number(head, "mpeg_sect.crc")
         yield "CRC status", want["crc_status"], number(head, "mpeg_sect.crc.status")
@@ -129,20 +130,27 @@ def showings(kind, section, want):
         yield "check as datagram", as_datagram, want | {"table_id": 0x3E, "crc_status": None}
 
 
+def spelled(value):
+    """A value to print; of many bytes their number and the first ones."""
+    if not isinstance(value, bytes):
+        return value
+    return value.hex() if len(value) <= 40 else f"{len(value)} bytes {value[:40].hex()}.."
+
+
 class Comparisons:
     """Counts what was compared, by the kind of section, and says what differs."""
 
     def __init__(self):
         self.sections, self.compared, self.differences = {}, {}, 0
 
-    def section(self, name, kind, by, found):
-        """found has (what, here, there); there is what `by` says."""
+    def section(self, name, kind, by, pairs):
+        """pairs has (what, wanted, found); `by` says which program found it."""
         self.sections.setdefault(kind, set()).add(name)
         fields = self.compared.setdefault((kind, by), {})
-        for what, here, there in found:
+        for what, wanted, found in pairs:
             fields[what] = fields.get(what, 0) + 1
-            if here != there:
-                self.differs(f"{name}: {what}: here {here}, {by} {there}")
+            if wanted != found:
+                self.differs(f"{name}: {what}: wanted {spelled(wanted)}, by {by} {spelled(found)}")
 
     def differs(self, words):
         self.differences += 1
@@ -166,17 +174,20 @@ class Comparisons:
         for (kind, by), fields in self.compared.items():
             print(f"{len(self.sections[kind])} sections '{kind}', by {by}: "
                   + ", ".join(f"{what} {n}" for what, n in fields.items()))
+        if not self.sections.get("datagram"):
+            self.differs("no datagram section was compared")
         total = sum(n for fields in self.compared.values() for n in fields.values())
         print(f"in all: {len(set().union(*self.sections.values()))} sections, "
               f"{total} comparisons, {self.differences} differences")
-        return 1 if self.differences or not self.sections.get("datagram") else 0
+        return 1 if self.differences else 0
 
 
 def listed(section, columns, headers):
     """(kind, what must stand in a section) by its line in the listing, and by its
     own bytes where there is no column for that."""
     kind, size = columns[3], int(columns[2])
-    want = {"table_id": section[0], "section_length": size - 3, "bits": section[1] >> 4 & 7, "crc_status": 1}
+    want = {"table_id": section[0], "section_length": size - 3,
+            "private_and_reserved": section[1] >> 4 & 7, "crc_status": 1}
     if kind == "refused":
         return f"refused {columns[4]}", want | {"crc_status": int(columns[4] != "9")}
     address, delta_t, tb, fb, *own = map(int, columns[4:])

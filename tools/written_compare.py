@@ -19,7 +19,7 @@ from tshark_compare import Comparisons
 def wanted(kind, field, payload):
     """What tshark must show of the section that a line describes."""
     want = {name: field[name] for name in writer.TIMING}
-    want.update(section_length=13 + len(payload), bits=3, crc_status=1)
+    want.update(section_length=13 + len(payload), private_and_reserved=3, crc_status=1)
     if kind == "check":
         front = bytes([field["p"], 0xFF, 0xFF, field["s"], field["last"]])
         return want | {"table_id": 0x78, "front": front}
@@ -47,6 +47,7 @@ def section_of(answer):
 
 
 def checksum_pairs(section):
+    """(what, wanted, found): what stands in the section is held against its CRC."""
     yield "CRC_32", int.from_bytes(section[-4:], "big"), reference.crc32(section[:-4])
     yield "CRC over all", 0, reference.crc32(section)
 
@@ -73,7 +74,7 @@ def main(lines, sections):
     comparisons = Comparisons()
     if len(given) != len(got):
         comparisons.differs(f"lines: {len(given)}, answers: {len(got)}")
-    cases, shut = [], 0
+    cases, not_looked_into = [], 0
     for number, (text, answer) in enumerate(zip(given, got), 1):
         name, (kind, field, payload) = f"line {number}", writer.described(text)
         if answer.startswith("refused") or writer.refusal(kind, field, payload):
@@ -87,17 +88,17 @@ def main(lines, sections):
         comparisons.section(name, kind, reference.CRC_BY, checksum_pairs(section))
         comparisons.section(name, kind, "its bytes", byte_pairs(kind, field, payload, section))
         want = wanted(kind, field, payload)
-        shut += kind == "datagram" and "payload" not in want
+        not_looked_into += kind == "datagram" and "payload" not in want
         cases.append((name, kind, section, want))
     missing = [] if reference.CRC_BY == "crcmod" else ["crcmod"]
     if shutil.which("tshark"):
         comparisons.tshark(cases)
-        print(f"{shut} datagrams not looked into by tshark: only their lengths are right")
+        print(f"{not_looked_into} datagrams not looked into by tshark: they are IP by version and length alone")
     else:
         missing.append("tshark")
     status = comparisons.report()
     if missing:
-        print("not there, left out: " + " ".join(missing))
+        print("not there: " + " ".join(missing))
     return status or (2 if missing else 0)
 
 

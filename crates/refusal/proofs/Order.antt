@@ -16,10 +16,6 @@ pub or_else_none : (v later : Verdict) → or_else v later ≡ None → (v ≡ N
 or_else_none (Some e) later none = (none, cc)
 or_else_none None later none = (refl, none)
 
-pub or_else_assoc : (u v w : Verdict) → or_else (or_else u v) w ≡ or_else u (or_else v w)
-or_else_assoc (Some e) v w = refl
-or_else_assoc None v w = refl
-
 -- the rules in front, then those behind
 pub first_append : (front back : List Verdict) → first (front ++ back) ≡ or_else (first front) (first back)
 first_append [] back = refl

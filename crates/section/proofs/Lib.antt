@@ -1,6 +1,5 @@
 pub mod Masks
 pub mod Halves
-pub mod Columns
 pub mod LaidOut
 pub mod Alike
 pub mod Passed

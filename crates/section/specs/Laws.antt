@@ -15,8 +15,8 @@ pub record SameSection (x y : Section) : Type 0 where
   pub timing : x.timing ≡ y.timing
   pub payload : x.payload.now ≡ y.payload.now
 
--- reading these bytes, for R rows and m check columns, gives these fields: no other answer, of which there always is one,
--- is open to it
+-- reading these bytes, for R rows and m check columns, gives these fields: each answer that the rules leave to reading,
+-- which always has one, has them
 abbrev pub ReadsAs : (R m : ℕ) → List ℕ → Section → Type 0
 ReadsAs R m s x = (answer : Result Section Refusal) → Answers (read_rules R m s) (SectionOf s) answer → IsOkAnd answer (λ y. SameSection y x)
 

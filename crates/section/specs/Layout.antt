@@ -40,8 +40,8 @@ written h t payload = with_crc (header_bytes h t (length payload) ++ payload)
 abbrev pub written_of : Section → List ℕ
 written_of x = written x.header x.timing x.payload.now
 
--- the bits that are not read, but for CRC_32, by table_id, byte and bit: bit 6 of byte 1, and in an MPE-FEC section byte 4
--- and bits 5 to 1 of byte 5
+-- the bits that are not read, by table_id, byte and bit: bit 6 of byte 1, and in an MPE-FEC section byte 4 and bits 5 to 1
+-- of byte 5
 abbrev pub unread : (id place bit_number : ℕ) → Bool
 unread id place bit_number =
     (place == 1 && bit_number == 6)

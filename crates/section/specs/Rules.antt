@@ -51,13 +51,17 @@ crc_rule s = when (not (crc s == 0)) (Checksum (length s - 4))
 abbrev pub zeros_rule : (byte_6 byte_7 : ℕ) → Verdict
 zeros_rule byte_6 byte_7 = or_else (when (not (byte_6 == 0)) (Field 6)) (when (not (byte_7 == 0)) (Field 7))
 
--- in an MPE-FEC section for R rows and m check columns: p, s, the last number, the address or the payload's size
-abbrev pub column_rule : (R m : ℕ) (p s last address size : ℕ) → Verdict
-column_rule R m p s last address size =
+-- in the header of an MPE-FEC section for m check columns: p, s, the last number or the address does not fit
+abbrev pub column_fields : (m : ℕ) (p s last : ℕ) → (address_fits : Bool) → Verdict
+column_fields m p s last address_fits =
     or_else (when (nat_lt 190 p) (Field 3))
     (or_else (when (nat_lt last s) (Field 6))
-    (or_else (when (nat_le m last) (Field 7))
-    (or_else (when (not (address == s * R)) (Field 8)) (when (not (size == R)) (Field 12)))))
+    (or_else (when (nat_le m last) (Field 7)) (when (not address_fits) (Field 8))))
+
+-- in an MPE-FEC section for R rows and m check columns: these, where the address is s * R, or the payload's size
+abbrev pub column_rule : (R m : ℕ) (p s last address size : ℕ) → Verdict
+column_rule R m p s last address size =
+    or_else (column_fields m p s last (address == s * R)) (when (not (size == R)) (Field 12))
 
 -- 10: a field has a value that it cannot have, or the payload of an MPE-FEC section has another size; the first such byte counts
 abbrev pub field_rule : (R m : ℕ) (id byte_3 byte_6 byte_7 address size : ℕ) → Verdict

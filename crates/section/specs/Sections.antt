@@ -32,6 +32,6 @@ HeaderIn s h = HeaderOf (byte s 0) (byte s 3) (byte s 4) (byte s 6) (byte s 7) (
 
 -- these are the fields of the section that the bytes are
 pub record SectionOf (s : List ℕ) (section : Section) : Type 0 where
-  pub header : HeaderOf (byte s 0) (byte s 3) (byte s 4) (byte s 6) (byte s 7) (payload_of s) section.header
+  pub header : HeaderIn s section.header
   pub timing : section.timing ≡ timing_of s
   pub payload : section.payload.now ≡ payload_of s

@@ -1,18 +1,12 @@
 -- When fields are not written as a section: the rules of 10, 11 and 15 in writing, and their order.
-use Rattle.std.specs.Prelude.{ℕ, ◌*◌, ◌^◌, Bool, not, ◌&&◌, List, [], ◌∷◌, length, None, ◌==◌, nat_le, nat_lt}
+use Rattle.std.specs.Prelude.{ℕ, ◌*◌, ◌^◌, not, ◌&&◌, List, [], ◌∷◌, length, None, ◌==◌, nat_le, nat_lt}
 use Rattle.refusal.specs.declared.Refusal.TheVariants.{Field, NotOneDatagram, Unwritable}
 use Rattle.refusal.specs.Rules.{Verdict, when, or_else}
 use Rattle.section.specs.declared.reading.Header.{Header}
 use Rattle.section.specs.declared.reading.Header.TheVariants.{Datagram, Check}
 use Rattle.section.specs.declared.timing.RealTime.{RealTime}
 use Rattle.section.specs.Datagrams.{whole_as}
-
--- in the header of an MPE-FEC section for m check columns: p, s, the last number or the address does not fit
-abbrev pub column_fields : (m : ℕ) (p s last : ℕ) → (address_fits : Bool) → Verdict
-column_fields m p s last address_fits =
-    or_else (when (nat_lt 190 p) (Field 3))
-    (or_else (when (nat_lt last s) (Field 6))
-    (or_else (when (nat_le m last) (Field 7)) (when (not address_fits) (Field 8))))
+use Rattle.section.specs.Rules.{column_fields}
 
 -- 10: an address of more than 18 bits
 abbrev pub address_rule : (address : ℕ) → Verdict

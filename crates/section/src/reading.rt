@@ -3,8 +3,7 @@ ghost use Rattle.std.specs.Prelude.{◌≡◌, ◌+◌, [], ◌∷◌, length, I
 ghost use Rattle.refusal.specs.Rules.{Obeys, Answers, first};
 ghost use Rattle.section.specs.Kinds.{table_id_of, table_rule};
 ghost use Rattle.section.specs.Layout.{kind_of};
-ghost use Rattle.section.specs.Rules.{size_rule, length_rule, marker_rule, plain_rule, crc_rule, zeros_rule, column_rule, field_rule, payload_rule, read_rules};
-ghost use Rattle.section.specs.Writing.{column_fields};
+ghost use Rattle.section.specs.Rules.{size_rule, length_rule, marker_rule, plain_rule, crc_rule, zeros_rule, column_fields, column_rule, field_rule, payload_rule, read_rules};
 ghost use Rattle.section.specs.Laws.{WrittenAgain};
 ghost use Rattle.section.specs.Sections.{HeaderOf, SectionOf};
 

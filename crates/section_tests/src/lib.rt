@@ -167,6 +167,7 @@ mod tests {
         assert_eq!(rt; answer(&[], FrameSize::RS_256), Err((4, 0)));
         let mut section = [0; 4097];
         assert_eq!(rt; answer(&section, FrameSize::RS_256), Err((4, 0)));
+        // Without this the check does not see that the parts below are within.
         assert!(rt; section.len() == 4097);
         section[0..12].copy_from_slice(&DATAGRAM[0..12]);
         section[1..3].copy_from_slice(&[0xbf, 0xfd]);
@@ -193,6 +194,7 @@ mod tests {
             let section = sealed(whole);
             let (answer, buffer) = written(&rt, &section, 4096)?;
             assert_eq!(rt; answer, Ok(36));
+            // Without this the check does not see that the parts below are within.
             assert!(rt; buffer.len() == 4096);
             assert_eq!(rt; &buffer[0..36], &section[..]);
             assert_eq!(rt; &buffer[36..4096], &[0x5a; 4060][..]);

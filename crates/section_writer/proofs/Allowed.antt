@@ -7,7 +7,8 @@ use Rattle.refusal.proofs.Order.{when_none, when_not_none, or_else_none}
 use Rattle.section.specs.declared.reading.Header.{Header}
 use Rattle.section.specs.declared.reading.Header.TheVariants.{Datagram, Check}
 use Rattle.section.specs.declared.timing.RealTime.{RealTime}
-use Rattle.section.specs.Writing.{column_fields, write_field_rule, write_payload_rule, write_rules}
+use Rattle.section.specs.Rules.{column_fields}
+use Rattle.section.specs.Writing.{write_field_rule, write_payload_rule, write_rules}
 
 -- delta_t and the address fit their bits, and the payload a section
 pub record Bounds (t : RealTime) (payload : List ℕ) : Type 0 where

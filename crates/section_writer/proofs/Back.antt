@@ -1,5 +1,5 @@
 -- What is written from fields that can be written is read back to the same fields.
-use Rattle.std.proofs.Common.{◌≡◌, ℕ, ◌+◌, ◌-◌, ◌*◌, ◌/◌, ◌%◌, ◌^◌, ◌<◌, true, eqb, List, ◌++◌, length, drop, None, Ok, Err, sym, subst, refl, ap, ◌∙◌, arith, rules}
+use Rattle.std.proofs.Common.{◌≡◌, ℕ, ◌+◌, ◌-◌, ◌*◌, ◌/◌, ◌%◌, ◌^◌, ◌<◌, true, eqb, List, ◌++◌, length, drop, None, Ok, Err, subst, refl, ap, ◌∙◌, arith, rules}
 use Rattle.std.proofs.lemmas.List.{take_at}
 use Rattle.std.proofs.lemmas.Bool.{and_parts, eqb-true, le-ltb, eq-eqb, or_right, agree_below_at}
 use Rattle.octets.specs.Octets.{byte, section_length}
@@ -21,7 +21,6 @@ use Rattle.section.specs.Writing.{write_rules}
 use Rattle.section.specs.Sections.{payload_of, timing_of, HeaderIn}
 use Rattle.section.specs.Layout.{written, written_of}
 use Rattle.section.specs.Laws.{ReadsAs}
-use Rattle.section.proofs.Columns.{column_split}
 use Rattle.section.proofs.LaidOut.{message, written_length}
 use Rattle.crc32.proofs.Words.{word_again}
 use Rattle.section_writer.proofs.Allowed.{column_parts, bounds}
@@ -76,8 +75,7 @@ kind_passes R m (Check h) t payload room passes = (
   refl,
   refl,
   refl,
-  sym (column_split R m h.padding_columns h.number h.last t.address (length payload))
-      ∙ (column_parts m h.padding_columns h.number h.last (eqb t.address (h.number * R)) _ (eqb (length payload) R) _ (passes.none 0)).0,
+  (column_parts m h.padding_columns h.number h.last (eqb t.address (h.number * R)) _ (eqb (length payload) R) _ (passes.none 0)).0,
   refl,
 )
 

@@ -1,4 +1,4 @@
--- The parts of a section, laid to the beginning of a buffer.
+-- The parts of a section, laid at the beginning of a buffer.
 use Rattle.std.proofs.Common.{◌≡◌, ℕ, ◌+◌, List, ◌++◌, length, drop, sym, ap, ◌∙◌}
 use Rattle.section.specs.declared.reading.Section.{Section}
 use Rattle.section.specs.Layout.{header_bytes, with_crc, written, written_of}

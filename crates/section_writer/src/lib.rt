@@ -37,8 +37,8 @@ fn column_address_fits(frame: FrameSize, number: u8, address: u32) -> bool
     frame.begins_column(number, address) && address <= MAX_ADDRESS
 }
 
-// The payload is a check column, and a section can carry it.
-fn column_size(frame: FrameSize, size: usize) -> bool
+// So many bytes are a check column of the frame, and a section can carry them.
+fn column_size_fits(frame: FrameSize, size: usize) -> bool
     ensures { result ≡ (size == frame.rows && nat_le size 4080) }
 {
     size == frame.rows && size <= MAX_PAYLOAD
@@ -62,7 +62,7 @@ fn check_fields(section: Section<'_>, frame: FrameSize) -> Result<(), Refusal>
             let address_fits = column_address_fits(frame, header.number, address);
             header.check_fields(frame.check_columns, address_fits)?;
             refuse_when(
-                !column_size(frame, section.payload.len()),
+                !column_size_fits(frame, section.payload.len()),
                 Refusal::Field { place: 12 },
             )
         }
@@ -80,8 +80,8 @@ fn check_room(room: usize) -> Result<(), Refusal>
 #[derive(Clone, Copy)]
 struct Writable<'a> {
     section: Section<'a>,
-    timing: [u8; 4],
-    ghost timing_told: { timing ≡ big_endian (real_time_word section.timing) },
+    timing_bytes: [u8; 4],
+    ghost timing_told: { timing_bytes ≡ big_endian (real_time_word section.timing) },
     ghost payload_fits: { length section.payload.now ≤ 4080 },
 }
 
@@ -95,8 +95,11 @@ fn check(section: Section<'_>, frame: FrameSize, room: usize) -> Result<Writable
     check_fields(section, frame)?;
     check_room(room)?;
     // Only delta_t can still be refused here: the address was tested with the other fields.
-    let timing = section.timing.to_be_bytes()?;
-    Ok(Writable { section, timing })
+    let timing_bytes = section.timing.to_be_bytes()?;
+    Ok(Writable {
+        section,
+        timing_bytes,
+    })
 }
 
 // Bytes 1 and 2 of a section with a payload of so many bytes: bits 7, 5 and 4, and section_length, which counts all but
@@ -126,7 +129,7 @@ fn crc_bytes(message: &[u8]) -> [u8; 4]
     crc_32(message).to_be_bytes()
 }
 
-// Fills what is just as long as header and payload with the two.
+// Fills a part of a buffer, as long as header and payload together, with the two.
 fn fill_message(message: &mut [u8], header: [u8; 12], payload: &[u8])
     requires { length message.old ≡ 12 + length payload.now }
     ensures { message.new ≡ header ++ payload.now }
@@ -136,7 +139,7 @@ fn fill_message(message: &mut [u8], header: [u8; 12], payload: &[u8])
     rest.copy_from_slice(payload);
 }
 
-// Fills a part of a buffer that is just as long as the section with it: header, payload, and the CRC_32 of both.
+// Fills a part of a buffer, as long as the section, with header, payload and the CRC_32 of both.
 fn fill_part(part: &mut [u8], header: [u8; 12], payload: &[u8])
     requires { length part.old ≡ 16 + length payload.now }
     ensures { part.new ≡ with_crc (header ++ payload.now) }
@@ -155,7 +158,7 @@ impl Writable<'_> {
         let header = self.section.header;
         let [length_1, length_2] = length_bytes(self.section.payload.len());
         let [kind_1, kind_2, kind_3, kind_4, kind_5] = kind_bytes(header);
-        let [t0, t1, t2, t3] = self.timing;
+        let [t0, t1, t2, t3] = self.timing_bytes;
         [
             header.kind().table_id(),
             length_1,
@@ -172,7 +175,7 @@ impl Writable<'_> {
         ]
     }
 
-    // Lays the section to the beginning of a buffer, and answers its length; no part of the buffer, as `write`.
+    // Lays the section at the beginning of a buffer, and answers its length, for the reason given at `write`.
     #[tactic(auto, using(crate::proofs::Laid::laid))]
     fn lay(self, buffer: &mut [u8]) -> usize
         requires { length buffer.old ≡ 4096 }
@@ -185,9 +188,9 @@ impl Writable<'_> {
     }
 }
 
-/// Writes a section for a frame of this size to the beginning of a buffer of 4,096 bytes, and answers its length: exactly
-/// the bytes of the format; what stands behind them stays. It is refused under 10, 11 or 15, and then nothing is written.
-/// Reading what was written gives the same fields and payload.
+/// Writes a section for a frame of this size, exactly the bytes of the format, to the beginning of a buffer of 4,096 bytes,
+/// and answers its length; what stands behind it stays. What cannot be written is refused under 10, 11 or 15, and then the
+/// buffer stays as it was. Reading what was written gives the same fields and payload.
 // A length, and no part of the buffer: a part would keep the buffer lent for as long as it is used.
 pub fn write(section: Section<'_>, frame: FrameSize, buffer: &mut [u8]) -> Result<usize, Refusal>
     ensures answer { Answers
