@@ -1,8 +1,7 @@
 -- What reading and writing a section promise of each other.
-use Rattle.std.specs.Prelude.{◌≡◌, ℕ, ◌+◌, ◌<◌, true, false, List, length, IsOkAnd, Result}
+use Rattle.std.specs.Prelude.{◌≡◌, ℕ, ◌+◌, ◌<◌, true, false, List, length}
 use Rattle.octets.specs.Octets.{byte, bit}
-use Rattle.refusal.specs.declared.Refusal.{Refusal}
-use Rattle.refusal.specs.Rules.{Passes, Answers}
+use Rattle.refusal.specs.Rules.{Passes}
 use Rattle.section.specs.declared.reading.Section.{Section}
 use Rattle.section.specs.Rules.{read_rules}
 use Rattle.section.specs.Writing.{write_rules}
@@ -15,10 +14,13 @@ pub record SameSection (x y : Section) : Type 0 where
   pub timing : x.timing ≡ y.timing
   pub payload : x.payload.now ≡ y.payload.now
 
--- reading these bytes, for R rows and m check columns, gives these fields: each answer that the rules leave to reading,
--- which always has one, has them
-abbrev pub ReadsAs : (R m : ℕ) → List ℕ → Section → Type 0
-ReadsAs R m s x = (answer : Result Section Refusal) → Answers (read_rules R m s) (SectionOf s) answer → IsOkAnd answer (λ y. SameSection y x)
+-- reading these bytes, for R rows and m check columns, gives these fields
+pub record ReadsAs (R m : ℕ) (s : List ℕ) (x : Section) : Type 0 where
+  -- no rule turns them away
+  pub passes : Passes (read_rules R m s)
+  -- these fields stand in them, and no others
+  pub fields : SectionOf s x
+  pub only : (y : Section) → SectionOf s y → SameSection y x
 
 -- writing the fields that were read from these bytes gives the bytes again
 pub record WrittenAgain (R m : ℕ) (s : List ℕ) (x : Section) : Type 0 where

@@ -10,7 +10,7 @@ use Rattle.section.specs.Kinds.{table_id_of, table_rule}
 use Rattle.section.specs.Datagrams.{whole_rule}
 use Rattle.section.specs.Sections.{payload_of, timing_of}
 
--- a rule that differs by the kind of section, which the table_id tells
+-- a rule that differs by the kind of section, which the table_id tells; any other has been turned away before, under 5
 abbrev pub by_kind : (id : ℕ) → (of_datagram of_check : Verdict) → Verdict
 by_kind id of_datagram of_check =
     cond (id == table_id_of Datagram) of_datagram (cond (id == table_id_of Check) of_check None)

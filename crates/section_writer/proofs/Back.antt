@@ -1,12 +1,12 @@
 -- What is written from fields that can be written is read back to the same fields.
-use Rattle.std.proofs.Common.{◌≡◌, ℕ, ◌+◌, ◌-◌, ◌*◌, ◌/◌, ◌%◌, ◌^◌, ◌<◌, true, eqb, List, ◌++◌, length, drop, None, Ok, Err, subst, refl, ap, ◌∙◌, arith, rules}
+use Rattle.std.proofs.Common.{◌≡◌, ℕ, ◌+◌, ◌-◌, ◌*◌, ◌/◌, ◌%◌, ◌^◌, ◌<◌, true, eqb, List, ◌++◌, length, drop, None, sym, subst, refl, ap, ◌∙◌, arith, rules}
 use Rattle.std.proofs.lemmas.List.{take_at}
 use Rattle.std.proofs.lemmas.Bool.{and_parts, eqb-true, le-ltb, eq-eqb, or_right, agree_below_at}
 use Rattle.octets.specs.Octets.{byte, section_length}
 use Rattle.crc32.specs.Crc.{crc, big_endian}
 use Rattle.crc32.proofs.Closing.{closed}
 use Rattle.refusal.specs.Rules.{Passes}
-use Rattle.refusal.proofs.Order.{when_not_none, first_passes, settles}
+use Rattle.refusal.proofs.Order.{when_not_none, first_passes}
 use Rattle.section.specs.declared.datagrams.IpVersion.{IpVersion}
 use Rattle.section.specs.declared.datagrams.IpVersion.TheVariants.{V4, V6}
 use Rattle.section.specs.declared.reading.Header.{Header}
@@ -114,13 +114,24 @@ header_back R m (Check h) t payload room passes (Datagram y) of = absurd (omega 
 header_back R m (Check h) t payload room passes (Check y) (_, padding, number, last) =
     λ i. Check (record { padding_columns = padding i; number = number i; last = last i })
 
+-- and it does stand there
+header_there : (R m : ℕ) (h : Header) (t : RealTime) (payload : List ℕ) (room : ℕ) → Passes (write_rules R m h t payload room) → HeaderIn (written h t payload) h
+unfolding written
+header_there R m (Datagram h) t payload room passes =
+    (refl, refl, refl, rw (payload_back (Datagram h) t payload) (when_not_none _ _ (passes.none 1)))
+header_there R m (Check h) t payload room passes = (refl, refl, refl, refl)
+
 pub reads_back : (R m : ℕ) (x : Section) (room : ℕ) → Passes (write_rules R m x.header x.timing x.payload.now room) → ReadsAs R m (written_of x) x
-reads_back R m x room passes (Err e) refused =
-    absurd ((settles (read_rules R m (written_of x))).not_both e refused (passes_back R m x.header x.timing x.payload.now room passes))
-reads_back R m x room passes (Ok y) (_, of) =
+reads_back R m x room passes =
     let w = bounds R m x.header x.timing x.payload.now room passes in
+    let timing = timing_back x.header x.timing x.payload.now w.short w.low in
+    let payload = payload_back x.header x.timing x.payload.now in
     record {
-      header = header_back R m x.header x.timing x.payload.now room passes y.header of.header;
-      timing = of.timing ∙ timing_back x.header x.timing x.payload.now w.short w.low;
-      payload = of.payload ∙ payload_back x.header x.timing x.payload.now;
+      passes = passes_back R m x.header x.timing x.payload.now room passes;
+      fields = record { header = header_there R m x.header x.timing x.payload.now room passes; timing = sym timing; payload = sym payload };
+      only = λ y of. record {
+        header = header_back R m x.header x.timing x.payload.now room passes y.header of.header;
+        timing = of.timing ∙ timing;
+        payload = of.payload ∙ payload;
+      };
     }

@@ -40,11 +40,12 @@ impl<R: Read> Source<R> {
     }
 
     // Reads on, at most a chunk, as far as the window has room. It asks for room, since without it no byte would come,
-    // just as at the end.
+    // just as at the end. Only where none comes has the input ended.
     fn fill(&mut self) -> io::Result<()>
         requires { length self.old.window < 4098 }
         ensures keeps { OnOk result (StartsWith self.new.window self.old.window) }
         ensures goes_on { OnOk result ((self.new.ended ≡ true) ⊎ (length self.old.window < length self.new.window)) }
+        ensures at_end { OnOk result (self.new.ended ≡ true → self.new.window ≡ self.old.window) }
     {
         let mut chunk = [0; CHUNK];
         let room = self.window.room().min(CHUNK);
