@@ -58,7 +58,8 @@ column_fields m p s last address_fits =
     (or_else (when (nat_lt last s) (Field 6))
     (or_else (when (nat_le m last) (Field 7)) (when (not address_fits) (Field 8))))
 
--- in an MPE-FEC section for R rows and m check columns: these, where the address is s * R, or the payload's size
+-- in an MPE-FEC section for R rows and m check columns: one of these, where the address fits if it is s * R, or the
+-- payload's size
 abbrev pub column_rule : (R m : ℕ) (p s last address size : ℕ) → Verdict
 column_rule R m p s last address size =
     or_else (column_fields m p s last (address == s * R)) (when (not (size == R)) (Field 12))
