@@ -2,9 +2,9 @@
 # The checks of the stored test files that need no package and take seconds:
 # the files are there, the reference listing gives the stored listing, the
 # section vectors and the sections to write are right, each must-fail edit stands
-# once in its source, and README shows the listing of the sample. One line for
-# each check; status 1 if one fails. The CRC is crcmod's where it is installed,
-# else a bitwise function's.
+# once in its source, README shows the listing of the sample and tells how many
+# sections and lines are stored. One line for each check; status 1 if one fails.
+# The CRC is crcmod's where it is installed, else a bitwise function's.
 set -u
 cd "$(dirname "${BASH_SOURCE[0]}")/.." || exit 1
 python=/usr/bin/python3

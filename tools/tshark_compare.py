@@ -6,8 +6,8 @@ file (link type 243, MPEG-2 TS), which tshark puts together and dissects. It has
 no dissector for MPE-FEC sections, whose fields stand where datagram sections
 have theirs: each is shown once more with the table_id of a datagram section and
 the CRC_32 of that. With `headers` the datagrams are not looked into (they need
-not be UDP).
-Ends with status 1 on a difference. Other comparisons use its functions."""
+not be UDP). Ends with status 1 on a difference, or where there was no datagram
+section to compare. Other comparisons use its functions."""
 import json
 import struct
 import subprocess
@@ -143,11 +143,11 @@ class Comparisons:
     def __init__(self):
         self.sections, self.compared, self.differences = {}, {}, 0
 
-    def section(self, name, kind, by, pairs):
-        """pairs has (what, wanted, found); `by` says which program found it."""
+    def section(self, name, kind, by, facts):
+        """facts has (what, wanted, found); `by` says which program found it."""
         self.sections.setdefault(kind, set()).add(name)
         fields = self.compared.setdefault((kind, by), {})
-        for what, wanted, found in pairs:
+        for what, wanted, found in facts:
             fields[what] = fields.get(what, 0) + 1
             if wanted != found:
                 self.differs(f"{name}: {what}: wanted {spelled(wanted)}, by {by} {spelled(found)}")

@@ -14,13 +14,10 @@ pub record SameSection (x y : Section) : Type 0 where
   pub timing : x.timing ≡ y.timing
   pub payload : x.payload.now ≡ y.payload.now
 
--- reading these bytes, for R rows and m check columns, gives these fields
-pub record ReadsAs (R m : ℕ) (s : List ℕ) (x : Section) : Type 0 where
-  -- no rule turns them away
-  pub passes : Passes (read_rules R m s)
-  -- these fields stand in them, and no others
-  pub fields : SectionOf s x
-  pub only : (y : Section) → SectionOf s y → SameSection y x
+-- reading these bytes, for R rows and m check columns, gives these fields: no rule turns them away, and these fields stand
+-- in them, and no others
+unfoldable pub ReadsAs : (R m : ℕ) → List ℕ → Section → Type 0
+ReadsAs R m s x = Passes (read_rules R m s) × SectionOf s x × ((y : Section) → SectionOf s y → SameSection y x)
 
 -- writing the fields that were read from these bytes gives the bytes again
 pub record WrittenAgain (R m : ℕ) (s : List ℕ) (x : Section) : Type 0 where

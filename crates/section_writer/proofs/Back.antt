@@ -122,16 +122,16 @@ header_there R m (Datagram h) t payload room passes =
 header_there R m (Check h) t payload room passes = (refl, refl, refl, refl)
 
 pub reads_back : (R m : ℕ) (x : Section) (room : ℕ) → Passes (write_rules R m x.header x.timing x.payload.now room) → ReadsAs R m (written_of x) x
+unfolding ReadsAs
 reads_back R m x room passes =
     let w = bounds R m x.header x.timing x.payload.now room passes in
     let timing = timing_back x.header x.timing x.payload.now w.short w.low in
-    let payload = payload_back x.header x.timing x.payload.now in
-    record {
-      passes = passes_back R m x.header x.timing x.payload.now room passes;
-      fields = record { header = header_there R m x.header x.timing x.payload.now room passes; timing = sym timing; payload = sym payload };
-      only = λ y of. record {
+    let payload = payload_back x.header x.timing x.payload.now in (
+      passes_back R m x.header x.timing x.payload.now room passes,
+      record { header = header_there R m x.header x.timing x.payload.now room passes; timing = sym timing; payload = sym payload },
+      λ y of. record {
         header = header_back R m x.header x.timing x.payload.now room passes y.header of.header;
         timing = of.timing ∙ timing;
         payload = of.payload ∙ payload;
-      };
-    }
+      },
+    )
