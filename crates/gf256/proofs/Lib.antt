@@ -1,0 +1,15 @@
+pub mod Agree
+pub mod Bytes
+pub mod Field
+pub mod FieldSums
+pub mod Inverse
+pub mod IsFieldHolds
+pub mod Laws
+pub mod Linear
+pub mod NoZeroDivisors
+pub mod PowerLaws
+pub mod ProductLaws
+pub mod Quotient
+pub mod Steps
+pub mod Tables
+pub mod Vandermonde
