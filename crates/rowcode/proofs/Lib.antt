@@ -1,0 +1,2 @@
+pub mod BareRows
+pub mod Settled

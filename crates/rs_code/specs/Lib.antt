@@ -1,0 +1,4 @@
+pub mod Counts
+pub mod Codewords
+pub mod Laws
+pub mod Horner
