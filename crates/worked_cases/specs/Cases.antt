@@ -1,7 +1,9 @@
 -- The table of worked cases: each line is a test of the definitions that must come out true.
 use Rattle.std.specs.Prelude.{ℕ, Bool, true, false, not, ◌&&◌, List, [], ◌∷◌, length, take, replicate, is_some, ◌==◌, slice_set}
 use Rattle.octets.specs.Octets.{byte}
+use Rattle.gf256.specs.Products.{times}
 use Rattle.refusal.specs.Rules.{first}
+use Rattle.rs_code.specs.Counts.{known_count}
 use Rattle.section.specs.declared.reading.Header.{Header}
 use Rattle.section.specs.declared.timing.RealTime.{RealTime}
 use Rattle.section.specs.RealTimes.{real_time_word, real_time_of}
@@ -9,6 +11,7 @@ use Rattle.section.specs.Rules.{read_rules}
 use Rattle.section.specs.Sections.{payload_of, timing_of}
 use Rattle.section.specs.Layout.{header_bytes, written}
 use Rattle.section.specs.Writing.{write_rules}
+use Rattle.worked_cases.specs.RowCases.{zeros, first_known}
 use Rattle.worked_cases.specs.Examples.{five_seconds, example, example_header, example_datagram, example_bit_6, column_5, column_5_timing, column_2, column_2_timing, column_2_bytes, column_2_section, column_2_otherwise}
 
 abbrev pub all_hold : List Bool → Bool
@@ -74,4 +77,12 @@ cases =
     -- with all that is not read otherwise it passes too, with the same column
     ∷ readable 20 8 column_2_otherwise
     ∷ same (payload_of column_2_otherwise) column_2_bytes
+    -- in the field, 0x02 times 0x8E is 0x01
+    ∷ (times 0x02 0x8E == 0x01)
+    -- 190, 191 and 192 bytes of a row can be known, and one of them can be the only one that is not 0
+    ∷ (known_count (first_known 190) == 190)
+    ∷ (known_count (first_known 191) == 191)
+    ∷ (known_count (first_known 192) == 192)
+    ∷ (length (first_known 191) == 255)
+    ∷ (byte (slice_set zeros 7 0x01) 7 == 0x01)
     ∷ []

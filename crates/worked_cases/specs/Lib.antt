@@ -1,2 +1,3 @@
 pub mod Examples
+pub mod RowCases
 pub mod Cases
