@@ -1,7 +1,7 @@
 # Two commands do everything on a machine that has the Rattle kit: `make demo` and `make test`.
 .PHONY: demo test outside
 
-# Proves what the programs need, builds them and runs them on a sample burst, step by step.
+# Proves what the programs need, builds them and runs them on a sample burst and a row, step by step.
 demo:
 	@tools/demo.sh
 
@@ -9,6 +9,7 @@ demo:
 test:
 	@.ci/run
 
-# Holds the stored test files, and what sectionwrite writes, against programs of others, which it installs from Debian's packages.
+# Holds the stored test files, what sectionwrite writes and what rowmend makes of rows against programs of others, which it
+# installs from Debian's packages.
 outside:
 	@tools/check_outside.sh

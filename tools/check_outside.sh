@@ -1,10 +1,11 @@
 #!/bin/bash
-# Hold the stored test files, the reference listing and what sectionwrite writes
-# against programs of others: crcmod (CRC_32), libfec (RS(255,191)), scapy (IP
-# datagrams) and tshark (sections in a transport stream). What is missing is
-# installed with apt-get (as root, from Debian); what is not to be had is named,
-# and the checks go on without it. Status 1 on any difference, 2 if something was
-# not to be had.
+# Hold the stored test files, the reference listing, what sectionwrite writes and
+# what rowmend makes of rows against programs of others: crcmod (CRC_32), libfec
+# (RS(255,191)), scapy (IP datagrams) and tshark (sections in a transport stream).
+# What is missing is installed with apt-get (as root, from Debian); what is not to
+# be had is named, and the checks go on without it. Status 1 on any difference, 2
+# if something was not to be had. The rows are other ones each time: with the seed
+# that was printed, check_outside.sh SEED takes the same ones again.
 set -u
 cd "$(dirname "${BASH_SOURCE[0]}")/.." || exit 1
 python=/usr/bin/python3     # Debian's modules belong to this one
@@ -25,6 +26,17 @@ have() {
         libfec-dev)     "$python" -c 'import ctypes.util as u; exit(not u.find_library("fec"))' ;;
         tshark)         command -v tshark ;;
     esac >/dev/null 2>&1
+}
+ended() {       # ended STATUS WORDS PACKAGE..: well with 0, and with 2 where one of the packages is not to be had
+    local state=$1 words=$2 package
+    shift 2
+    [ "$state" = 0 ] && return
+    if [ "$state" = 2 ]; then
+        for package; do
+            have "$package" || return 0
+        done
+    fi
+    differs "$words"
 }
 say "== Programs of others"
 export DEBIAN_FRONTEND=noninteractive
@@ -48,11 +60,15 @@ say "== Stored files made anew"
 new=$(mktemp -d) || exit 1
 trap 'rm -rf "$new"' EXIT
 "$python" tools/make_vectors.py "$new" || differs "make_vectors.py did not end well"
+"$python" tools/make_row_vectors.py "$new"
+ended $? "make_row_vectors.py did not end well" libfec-dev
 for name in samples/burst.bin crates/sectionlist/stdin crates/sectionlist/stdout \
             crates/section_vectors/stdin crates/section_vectors/stdout \
-            crates/sectionwrite/stdin crates/sectionwrite/stdout; do
+            crates/sectionwrite/stdin crates/sectionwrite/stdout \
+            crates/rowmend/stdin crates/rowmend/stdout crates/linkdemo/stdout; do
     if [ ! -f "$new/$name" ]; then
         say "not made anew, not compared: $name"
+        [ -n "$missing" ] || differs "$name is not made anew"
     elif cmp -- "$new/$name" "$name"; then
         say "the same, $(stat -c %s "$name") bytes: $name"
     else
@@ -74,31 +90,41 @@ else
     say "no tshark: the sections are not compared"
 fi
 
-# 4. What our own program writes, decoded by others.
+# 4. What our own programs make, held against others.
+built() {       # built NAME: target/bin/NAME is there, and no source is newer
+    local program=target/bin/$1
+    if [ -x "$program" ] && [ -z "$(find crates -name out -prune -o -name '*.rt' -newer "$program" -print -quit)" ]; then
+        return
+    fi
+    if ! command -v rt >/dev/null; then
+        say "NOT TO BE HAD: rt, to build $1"
+        missing="$missing rt"
+        return 1
+    fi
+    say "build it (tools/build.sh $1)"
+    if ! tools/build.sh "$1" >"$new/log" 2>&1; then
+        tail -n 5 "$new/log"
+        differs "$1 is not built"
+        return 1
+    fi
+}
 decode_written() {
     local program=target/bin/sectionwrite lines=crates/sectionwrite/stdin
-    if [ ! -x $program ] || [ -n "$(find crates -name out -prune -o -name '*.rt' -newer $program -print -quit)" ]; then
-        if ! command -v rt >/dev/null; then
-            say "NOT TO BE HAD: rt, to build sectionwrite"
-            missing="$missing rt"
-            return
-        fi
-        say "build it (tools/build.sh sectionwrite)"
-        if ! tools/build.sh sectionwrite >"$new/log" 2>&1; then
-            tail -n 5 "$new/log"
-            differs "sectionwrite is not built"
-            return
-        fi
-    fi
+    built sectionwrite || return
     $program < $lines > "$new/written" || differs "sectionwrite did not end well"
     "$python" tools/written_compare.py $lines "$new/written"
-    case $? in
-        0 | 2) ;;       # 2: tshark or crcmod was not to be had, as was said above
-        *) differs "what sectionwrite writes of $lines" ;;
-    esac
+    ended $? "what sectionwrite writes of $lines" tshark python3-crcmod
 }
 say "== What sectionwrite writes of crates/sectionwrite/stdin, decoded"
 decode_written
+
+mend_rows() {
+    built rowmend || return
+    "$python" tools/row_compare.py target/bin/rowmend "$@"
+    ended $? "what rowmend makes of these rows" libfec-dev
+}
+say "== What rowmend makes of rows made at random, held against libfec"
+mend_rows "$@"
 
 say "== End"
 [ $status = 0 ] && say "no difference in what was compared" || say "there are differences"

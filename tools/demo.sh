@@ -1,13 +1,15 @@
 #!/usr/bin/env bash
-# One real job from beginning to end: the programs are proved, built and run on the sample burst, and each step is told.
+# One real job from beginning to end: the programs are proved, built and run on the sample burst, and a row is protected,
+# damaged and mended. Each step is told.
 set -euo pipefail
 cd "$(dirname "${BASH_SOURCE[0]}")/.."
 burst=samples/burst.bin
 log=$(mktemp)
 trap 'rm -f "$log"' EXIT
 
-echo "1. Prove the layers and the programs sectionlist and sectionwrite, and build them (tools/build.sh; some minutes at first)."
-if ! tools/build.sh sectionlist sectionwrite 2>"$log"; then
+echo "1. Prove the layers and the programs sectionlist, sectionwrite and linkdemo, and build them (tools/build.sh; some minutes"
+echo "   at first)."
+if ! tools/build.sh sectionlist sectionwrite linkdemo 2>"$log"; then
     cat "$log"
     exit 1
 fi
@@ -44,3 +46,17 @@ if [ "$written" != "$(od -An -v -tx1 -N216 "$burst" | tr -d ' \n' | tr a-f A-F)"
     exit 1
 fi
 echo "   These are the 216 bytes that the file begins with, CRC_32 included."
+
+echo
+echo "6. Protect a row of a frame with RS(255,191), damage it and mend it (target/bin/linkdemo; what it tells has come out in"
+echo "   this run, or it ends with an error):"
+target/bin/linkdemo | sed 's/^./   &/'
+
+echo
+echo "7. Work out the 64 syndromes of that row by their definition (tools/reference_rows.py)."
+if command -v "$python" >/dev/null; then
+    target/bin/linkdemo | "$python" tools/reference_rows.py
+    echo "   All are 0: it is a codeword."
+else
+    echo "   There is no Python 3 here: left out."
+fi

@@ -1,9 +1,11 @@
 #!/bin/bash
 # The checks of the stored test files that need no package and take seconds:
 # the files are there, the reference listing gives the stored listing, the
-# section vectors and the sections to write are right, each must-fail edit stands
-# once in its source, README shows the listing of the sample and tells how many
-# sections and lines are stored. One line for each check; status 1 if one fails.
+# section vectors and the sections to write are right, the stored rows are right by
+# the definition of their code, each must-fail edit stands once in its source,
+# README shows the listing of the sample and what linkdemo prints, it and
+# docs/TESTING.md tell how much is stored. One line for each check; status 1 if one
+# fails.
 # The CRC is crcmod's where it is installed, else a bitwise function's.
 set -u
 cd "$(dirname "${BASH_SOURCE[0]}")/.." || exit 1
@@ -16,7 +18,8 @@ result() {      # result STATUS WORDS
 
 for name in samples/burst.bin crates/sectionlist/stdin crates/sectionlist/stdout \
             crates/section_vectors/stdin crates/section_vectors/stdout \
-            crates/sectionwrite/stdin crates/sectionwrite/stdout; do
+            crates/sectionwrite/stdin crates/sectionwrite/stdout \
+            crates/rowmend/stdin crates/rowmend/stdout crates/linkdemo/stdout; do
     test -s "$name"
     result $? "$name is there and not empty"
 done
@@ -29,12 +32,14 @@ test "$("$python" tools/reference_list.py < samples/burst.bin | tail -n 1)" \
 result $? "samples/burst.bin has 12 datagram sections, 4 check columns, 2 damaged"
 
 "$python" - <<'EOF'
+import collections
 import glob
 import os
 import sys
 sys.dont_write_bytecode = True
 sys.path.insert(0, "tools")
 import reference_list as reference
+import reference_rows as rows
 import reference_write as writer
 bad = 0
 
@@ -66,6 +71,20 @@ for crc, by in {reference.crc32: reference.CRC_BY,
     result([writer.answer(row) for row in described] == written,
            f"the reference writes crates/sectionwrite/stdin as crates/sectionwrite/stdout, CRC_32 by {by}")
 
+asked = lines("crates/rowmend/stdin")
+mended = lines("crates/rowmend/stdout")
+result(len(asked) == len(mended), f"crates/rowmend, {len(mended)} lines in and out")
+wrong = rows.contradictions(asked, mended)
+result(not wrong, "by the definition of the code the stored rows are right, torn ones as they were"
+       + "".join(f"; line {number}: {what}" for number, what in wrong))
+missing = collections.Counter(line.count("..") for line, answer in zip(asked, mended)
+                              if line.startswith("rs mend") and answer[0] in rows.FILLED + rows.TORN)
+result(all(missing[count] > 1 for count in range(rows.CHECK_BYTES + 1)),
+       f"rows with each count of missing bytes from 0 to {rows.CHECK_BYTES} are among them")
+
+with open("crates/linkdemo/stdout") as file:
+    result(rows.is_codeword(rows.shown(file.read())), "the check bytes in crates/linkdemo/stdout make its text a codeword")
+
 def edits():
     """(name, whether each old text stands just once in its file) for each must-fail edit."""
     for name in sorted(glob.glob("crates/*/must-fail/*.edit")):
@@ -85,9 +104,20 @@ with open("samples/burst.bin", "rb") as file:
 with open("README.md") as file:
     readme = file.read()
 result(shown in readme, "README shows the listing of samples/burst.bin")
+with open("crates/linkdemo/stdout") as file:
+    told = "".join("    " + line if line.strip() else line for line in file)
+result(told in readme, "README shows what linkdemo prints")
 listed = lines("crates/sectionlist/stdout")[-1].split(" ")[1]
-told = [f"{listed} ordinary and hostile", f"{len(written)} lines", f"{len(vectors)} stored byte strings"]
-result(all(words in readme for words in told), "README tells how many stored: " + ", ".join(told))
+told = [f"{listed} ordinary and hostile", f"{len(written)} lines", f"{len(mended)} rows", f"{len(vectors)} stored byte strings"]
+on_one_line = " ".join(readme.split())
+result(all(f" {words}" in on_one_line for words in told), "README tells how many stored: " + ", ".join(told))
+with open("docs/TESTING.md") as file:
+    testing = file.read()
+answers = collections.Counter(answer.split(" ")[0] for answer in mended)
+kinds = ", ".join(f"{answers[said]} {kind}" for said, kind in (
+    (rows.FILLED, "filled"), (rows.TORN, "torn"), (rows.OPEN, "open"), (rows.SPREAD, "spread"), (rows.MISFIT, "misfit")))
+told = f"| {len(mended)} rows, and what `rowmend` must answer and leave of each ({kinds})."
+result(told in testing, "docs/TESTING.md tells what rows are stored: " + told)
 sys.exit(bad)
 EOF
 [ $? = 0 ] || status=1

@@ -35,7 +35,8 @@ fn digit(hex: u8) -> Option<u8>
     }
 }
 
-fn byte(high: u8, low: u8) -> Option<u8>
+/// The byte that two hex digits stand for, the higher one first; none if one of them is no digit.
+pub fn byte_of(high: u8, low: u8) -> Option<u8>
     ensures { elim result [ Some b ↦ Digits b high low | None ↦ ((b : ℕ) → b < 256 → Digits b high low → ⊥) ] }
 {
     Some(digit(high)? * 16 + digit(low)?)
@@ -49,7 +50,7 @@ fn read_digits(heap: Global, text: &[u8]) -> Result<Vec<u8>, HexError>
     let mut bytes = Vec::new(heap);
     let mut left = text;
     while let [high, low, rest @ ..] = left {
-        bytes.push(byte(*high, *low).ok_or(HexError::NotHex)?)?;
+        bytes.push(byte_of(*high, *low).ok_or(HexError::NotHex)?)?;
         left = rest;
     }
     if left.is_empty() {

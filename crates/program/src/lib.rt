@@ -5,4 +5,4 @@ mod arguments;
 mod hex;
 
 pub use arguments::asked_to_run;
-pub use hex::{HexError, bytes_of};
+pub use hex::{HexError, byte_of, bytes_of};
