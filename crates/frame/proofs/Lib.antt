@@ -1,0 +1,3 @@
+pub mod OneFrame
+pub mod SectionsRead
+pub mod Placed

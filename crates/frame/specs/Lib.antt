@@ -1,0 +1,5 @@
+pub mod Fields
+pub mod Heads
+pub mod Frames
+pub mod Sent
+pub mod Laws
