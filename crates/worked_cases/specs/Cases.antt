@@ -2,6 +2,8 @@
 use Rattle.std.specs.Prelude.{ℕ, Bool, true, false, not, ◌&&◌, List, [], ◌∷◌, length, take, replicate, is_some, ◌==◌, slice_set}
 use Rattle.octets.specs.Octets.{byte}
 use Rattle.gf256.specs.Products.{times}
+use Rattle.geometry.specs.Cells.{row_at, column_at}
+use Rattle.geometry.specs.Ends.{padding_of, ends_in}
 use Rattle.refusal.specs.Rules.{first}
 use Rattle.rs_code.specs.Counts.{known_count}
 use Rattle.section.specs.declared.reading.Header.{Header}
@@ -85,4 +87,13 @@ cases =
     ∷ (known_count (first_known 192) == 192)
     ∷ (length (first_known 191) == 255)
     ∷ (byte (slice_set zeros 7 0x01) 7 == 0x01)
+    -- with 256 rows, address 1,040 is row 16 of column 4
+    ∷ (row_at 256 1040 == 16)
+    ∷ (column_at 256 1040 == 4)
+    -- datagrams that end at 256 leave 190 columns of padding only, and with a byte more 189
+    ∷ (padding_of 256 256 == 190)
+    ∷ ends_in 256 190 256
+    ∷ (padding_of 256 257 == 189)
+    ∷ ends_in 256 189 257
+    ∷ not (ends_in 256 190 257)
     ∷ []

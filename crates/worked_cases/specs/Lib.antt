@@ -1,3 +1,4 @@
 pub mod Examples
 pub mod RowCases
+pub mod FrameCases
 pub mod Cases

@@ -1,16 +1,19 @@
-//! Worked cases: those that the checker computes from the definitions, in one table, and those of whole rows, which follow from
-//! the laws of the code.
+//! Worked cases: those that the checker computes from the definitions, in one table; those of whole rows, which follow from the
+//! laws of the code; and that of a frame of one datagram, with a section of either kind that comes from it.
 #![tactic(auto)]
 
 ghost use Rattle.std.specs.Prelude.{◌≡◌, T, length};
 ghost use Rattle.worked_cases.specs.Cases.{cases, all_hold};
+ghost use Rattle.worked_cases.specs.FrameCases.{OwnCase};
 ghost use Rattle.worked_cases.specs.RowCases.{RowCases};
 
-/// How many worked cases there are in the table. All of them hold of the definitions, and so do those of whole rows.
+/// How many worked cases there are in the table. All of them hold of the definitions, and so do those of whole rows
+/// and of a frame.
 pub fn worked_cases() -> usize
     ensures count { result ≡ length cases }
     ensures hold { T (all_hold cases) }
     ensures rows { RowCases }
+    ensures own { OwnCase }
 {
-    35
+    42
 }
