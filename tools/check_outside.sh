@@ -1,11 +1,12 @@
 #!/bin/bash
 # Hold the stored test files, the reference listing, what sectionwrite writes and
 # what rowmend makes of rows against programs of others: crcmod (CRC_32), libfec
-# (RS(255,191)), scapy (IP datagrams) and tshark (sections in a transport stream).
+# (RS(255,191)), scapy (IP datagrams) and tshark (sections in a transport stream);
+# and what bursttake makes of random bursts against the second receiver.
 # What is missing is installed with apt-get (as root, from Debian); what is not to
 # be had is named, and the checks go on without it. Status 1 on any difference, 2
-# if something was not to be had. The rows are other ones each time: with the seed
-# that was printed, check_outside.sh SEED takes the same ones again.
+# if something was not to be had. The rows and bursts are other ones each time: with a
+# seed that was printed, check_outside.sh SEED takes the same ones again.
 set -u
 cd "$(dirname "${BASH_SOURCE[0]}")/.." || exit 1
 python=/usr/bin/python3     # Debian's modules belong to this one
@@ -62,10 +63,12 @@ trap 'rm -rf "$new"' EXIT
 "$python" tools/make_vectors.py "$new" || differs "make_vectors.py did not end well"
 "$python" tools/make_row_vectors.py "$new"
 ended $? "make_row_vectors.py did not end well" libfec-dev
+"$python" tools/make_take_vectors.py "$new" || differs "make_take_vectors.py did not end well"
 for name in samples/burst.bin crates/sectionlist/stdin crates/sectionlist/stdout \
             crates/section_vectors/stdin crates/section_vectors/stdout \
             crates/sectionwrite/stdin crates/sectionwrite/stdout \
-            crates/rowmend/stdin crates/rowmend/stdout crates/linkdemo/stdout; do
+            crates/rowmend/stdin crates/rowmend/stdout crates/linkdemo/stdout \
+            crates/bursttake/stdin crates/bursttake/stdout; do
     if [ ! -f "$new/$name" ]; then
         say "not made anew, not compared: $name"
         [ -n "$missing" ] || differs "$name is not made anew"
@@ -125,6 +128,13 @@ mend_rows() {
 }
 say "== What rowmend makes of rows made at random, held against libfec"
 mend_rows "$@"
+
+take_bursts() {
+    built bursttake || return
+    "$python" tools/take_compare.py target/bin/bursttake "$@" || differs "what bursttake makes of these bursts"
+}
+say "== What bursttake makes of bursts made at random, held against the second receiver"
+take_bursts "$@"
 
 say "== End"
 [ $status = 0 ] && say "no difference in what was compared" || say "there are differences"

@@ -1,6 +1,6 @@
 #!/usr/bin/env bash
-# One real job from beginning to end: the programs are proved, built and run on the sample burst, and a row is protected,
-# damaged and mended. Each step is told.
+# One real job from beginning to end: the programs are proved, built and run on the sample burst, a row is protected,
+# damaged and mended, and a burst takes sections. Each step is told.
 set -euo pipefail
 cd "$(dirname "${BASH_SOURCE[0]}")/.."
 burst=samples/burst.bin
@@ -48,8 +48,8 @@ fi
 echo "   These are the 216 bytes that the file begins with, CRC_32 included."
 
 echo
-echo "6. Protect a row of a frame with RS(255,191), damage it and mend it (target/bin/linkdemo; what it tells has come out in"
-echo "   this run, or it ends with an error):"
+echo "6. Protect a row of a frame with RS(255,191), damage it and mend it; then have a burst take the sections of a frame, and"
+echo "   others among them (target/bin/linkdemo; what it tells has come out in this run, or it ends with an error):"
 target/bin/linkdemo | sed 's/^./   &/'
 
 echo

@@ -1,6 +1,7 @@
 #!/usr/bin/python3
 """Make the stored files of the programs that work on rows anew, always the same
-bytes; what is to come out of a row is libfec's, and of the bare code's the rule's:
+bytes; what is to come out of a row is libfec's, and of the bare code's the rule's; what
+becomes of the sections of the demonstration's burst is the second receiver's:
 
   crates/rowmend/stdin       rows to mend and to spread, a line each
   crates/rowmend/stdout      the answers
@@ -14,6 +15,7 @@ import random
 import sys
 
 sys.dont_write_bytecode = True
+import reference_demo
 import reference_rows as reference
 from reference_rows import CHECK_BYTES, FILLED, GIVEN, MISFIT, OPEN, ROW, SPREAD, TORN
 
@@ -231,6 +233,8 @@ def demonstration():
         "",
         "4. Bytes 0 to 39 are lost, and the lowest bit of byte 200 is flipped:",
         *mend_lines(TORN, range(40), flipped=[200]),
+        "",
+        *reference_demo.burst(libfec),
     ])
 
 

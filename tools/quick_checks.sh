@@ -2,7 +2,8 @@
 # The checks of the stored test files that need no package and take seconds:
 # the files are there, the reference listing gives the stored listing, the
 # section vectors and the sections to write are right, the stored rows are right by
-# the definition of their code, each must-fail edit stands once in its source,
+# the definition of their code, the stored bursts are made anew and answered by the
+# second program as is stored, each must-fail edit stands once in its source,
 # README shows the listing of the sample and what linkdemo prints, it and
 # docs/TESTING.md tell how much is stored. One line for each check; status 1 if one
 # fails.
@@ -19,7 +20,8 @@ result() {      # result STATUS WORDS
 for name in samples/burst.bin crates/sectionlist/stdin crates/sectionlist/stdout \
             crates/section_vectors/stdin crates/section_vectors/stdout \
             crates/sectionwrite/stdin crates/sectionwrite/stdout \
-            crates/rowmend/stdin crates/rowmend/stdout crates/linkdemo/stdout; do
+            crates/rowmend/stdin crates/rowmend/stdout crates/linkdemo/stdout \
+            crates/bursttake/stdin crates/bursttake/stdout; do
     test -s "$name"
     result $? "$name is there and not empty"
 done
@@ -30,6 +32,12 @@ result $? "the reference lists crates/sectionlist/stdin as crates/sectionlist/st
 test "$("$python" tools/reference_list.py < samples/burst.bin | tail -n 1)" \
     = "sections 18 datagram 12 check 4 refused 2"
 result $? "samples/burst.bin has 12 datagram sections, 4 check columns, 2 damaged"
+
+new=$(mktemp -d) || exit 1
+trap 'rm -rf "$new"' EXIT
+"$python" tools/make_take_vectors.py "$new" && cmp "$new/crates/bursttake/stdin" crates/bursttake/stdin \
+    && cmp "$new/crates/bursttake/stdout" crates/bursttake/stdout
+result $? "made anew, each case as it was made to be, crates/bursttake/stdin and stdout are the same"
 
 "$python" - <<'EOF'
 import collections
@@ -118,6 +126,14 @@ kinds = ", ".join(f"{answers[said]} {kind}" for said, kind in (
     (rows.FILLED, "filled"), (rows.TORN, "torn"), (rows.OPEN, "open"), (rows.SPREAD, "spread"), (rows.MISFIT, "misfit")))
 told = f"| {len(mended)} rows, and what `rowmend` must answer and leave of each ({kinds})."
 result(told in testing, "docs/TESTING.md tells what rows are stored: " + told)
+answers = lines("crates/bursttake/stdout")
+said = collections.Counter(answer.split(" ")[0] for answer in answers)
+told = f"| {said['started'] + said['taken'] + said['refused']} calls, and what `bursttake` must print of each ({said['started']} started, {said['taken']} taken, {said['refused']} refused)."
+calls = f"{len(answers)} calls of start and take"
+result(calls in on_one_line, "README tells how many stored: " + calls)
+result(told in testing and sum(said.values()) == len(answers), "docs/TESTING.md tells what calls are stored: " + told)
+refused = collections.Counter(answer.split(" ")[1] for answer in answers if answer.startswith("refused"))
+result(all(refused[str(number)] > 1 for number in (1, 2, *range(4, 14))), "each refusal of start and take is among them")
 sys.exit(bad)
 EOF
 [ $? = 0 ] || status=1

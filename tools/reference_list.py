@@ -70,8 +70,9 @@ def timing(section):
     return number >> 20, number >> 19 & 1, number >> 18 & 1, number & 0x3FFFF
 
 
-def refusal(section):
-    """(number, place) of the first rule that the section breaks, else None."""
+def refusal(section, rows=R, columns=M):
+    """(number, place) of the first rule that the section breaks, else None; for frames of
+    so many rows and check columns."""
     n = len(section)
     if n < 16 or n > 4096:
         return 4, 0                      # size
@@ -102,11 +103,11 @@ def refusal(section):
             return 10, 3                 # padding columns
         if s > last:
             return 10, 6                 # number of the check column
-        if last >= M:
+        if last >= columns:
             return 10, 7                 # last number
-        if timing(section)[3] != s * R:
+        if timing(section)[3] != s * rows:
             return 10, 8                 # address in the RS table
-        if len(payload) != R:
+        if len(payload) != rows:
             return 10, 12                # one column
     return None
 

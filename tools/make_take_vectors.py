@@ -1,0 +1,497 @@
+#!/usr/bin/python3
+"""Make the stored files of the program that has bursts take sections, always the same
+bytes; what is to come of each call is the second receiver's, and what a case was made
+to be:
+
+  crates/bursttake/stdin     buffers, starts and sections, a line each
+  crates/bursttake/stdout    the answers, and checksums of cells and marks
+
+make_take_vectors.py [FOLDER] writes below FOLDER; without it, below the repository's
+root. Needs no package."""
+import os
+import random
+import sys
+
+sys.dont_write_bytecode = True
+import reference_take as reference
+from reference_take import COLUMNS, ROWS
+from reference_write import fec, mpe, sealed
+from take_compare import Frame, datagram, random_burst, take_line
+
+ROOT = os.path.dirname(os.path.dirname(os.path.abspath(__file__)))
+R, TABLE = ROWS[0], COLUMNS * ROWS[0]
+STARTED, TAKEN = "started", "taken"
+
+
+def store(name, text):
+    path = os.path.join(FOLDER, name)
+    os.makedirs(os.path.dirname(path), exist_ok=True)
+    with open(path, "w", newline="") as file:
+        file.write(text)
+
+
+# ---- The lines, and what the answers to calls were made to be: none where that is left to the second receiver ----
+
+def note(words):
+    lines.append("# " + words)
+
+
+def buffers(cells, marks=None):
+    lines.append(f"buffers {cells} {cells if marks is None else marks}")
+
+
+def put(mark, first, count=1):
+    lines.append(f"put {mark} {first} {count}")
+
+
+def start(code, size_code, said=STARTED):
+    lines.append(f"start {code} {size_code}")
+    due.append(said)
+
+
+def take(section, said=TAKEN):
+    """`said`: TAKEN, or the (number, place) of a refusal."""
+    lines.append(take_line(rng, section))
+    due.append(said)
+
+
+def begin(frame):
+    lines.append(frame.buffers())
+    start(frame.code, frame.size_code)
+
+
+def take_all(frame, sections):
+    for section in sections:
+        take(section)
+
+
+def sections_of(frame, numbers):
+    """Every datagram section, and the check columns with these numbers."""
+    return ([frame.datagram_section(k) for k in range(len(frame.datagrams))]
+            + [frame.check_section(s) for s in numbers])
+
+
+# ---- Bursts of one lawful frame: nothing is refused under 4 to 13 ----
+
+def lawful():
+    note("a frame in order, and once more, shuffled; last and the flags differ from section to section")
+    frame = Frame(rng, "rs", 0, [20, 40, 41, 300, 21, 77, 520, 60, 256, 100, 90, 64])
+    begin(frame)
+    take_all(frame, sections_of(frame, (0, 1, 2, 5, 63)))
+    again = sections_of(frame, (0, 1, 63))
+    rng.shuffle(again)
+    take_all(frame, again)
+
+    note("frames shuffled, with sections lost and repeated, of both row codes and of each size")
+    for code, size_code, sizes, numbers in (
+            ("rs", 0, [60] * 9 + [200, 37], (0, 7, 31, 62)), ("rs", 0, [128] * 12, (1, 2)),
+            ("bare", 0, [44, 20, 350, 48, 128, 29, 500, 33, 61], ()), ("rs", 1, [300, 60, 45, 600, 20, 99], (0, 1, 63)),
+            ("bare", 1, [90, 45, 333, 44], ()), ("rs", 2, [700, 80, 30], (0, 63)), ("rs", 3, [1000, 24, 20], (63,)),
+            ("bare", 3, [60, 20], ())):
+        frame = Frame(rng, code, size_code, sizes)
+        sections = sections_of(frame, numbers)
+        rng.shuffle(sections)
+        sections = sections[len(sections) // 5:]
+        begin(frame)
+        take_all(frame, sections)
+        take_all(frame, rng.sample(sections, len(sections) // 2))
+
+    note("the last datagram ends at the end of a column, one byte before it, and one behind")
+    for end in (20, 255, 256, 257, 512, 513):
+        frame = Frame(rng, "rs", 0, [end] if end < 100 else [end - 40, 40])
+        for which in ((-1,), (0,), (-1, 0), (0, -1)):
+            begin(frame)
+            for each in which:
+                take(frame.datagram_section(-1) if each else frame.check_section(3))
+
+    note("frames that fill the table, or all of it but some bytes")
+    for end in (TABLE, TABLE - 1, TABLE - 255, TABLE - 256):
+        most = [4080] * 11
+        frame = Frame(rng, "rs", 0, [*most, end - sum(most) - 60, 60])
+        begin(frame)
+        for section in (frame.check_section(63), frame.datagram_section(-1), frame.check_section(0), frame.datagram_section(-1)):
+            take(section)
+
+
+# ---- Starts, and buffers ----
+
+def starts():
+    size, bare = (COLUMNS + 64) * R, COLUMNS * R
+    note("2 before any buffers were lent, and 1 before 2")
+    start("rs", 0, (2, 0))
+    for size_code in (4, 5, 128, 255):
+        start("rs", size_code, (1, 0))
+    note("buffers of other lengths, and of other frames")
+    for cells, marks in ((size - 1, size), (size, size + 1), (size, 0), (bare, size), (size, bare), (2 * size, 2 * size)):
+        buffers(cells, marks)
+        start("rs", 0, (2, 0))
+    buffers(bare)
+    start("rs", 0, (2, 0))
+    start("bare", 4, (1, 0))
+    start("bare", 1, (2, 0))
+    start("bare", 0)
+    buffers(size)
+    start("bare", 0, (2, 0))
+    start("rs", 1, (2, 0))
+    start("rs", 0)
+
+    note("a start that is refused leaves the burst before it; one that is not forgets it, and the cells stay")
+    frame = Frame(rng, "rs", 0, [50, 60])
+    take(frame.datagram_section(0))
+    start("rs", 4, (1, 0))
+    start("bare", 0, (2, 0))
+    take(frame.datagram_section(1))
+    take(mpe(datagram(rng, 50), address=frame.end), (12, frame.end))
+    start("rs", 0)
+    take(mpe(datagram(rng, 50), address=frame.end))
+    take(mpe(datagram(rng, 60), address=20))
+    start("rs", 0)
+
+    note("2 before 4 and all others; other buffers of the right lengths are as good")
+    good = frame.check_section(0)
+    for cells, marks in ((size - 1, size), (size, size - 1), (0, 0), (bare, bare)):
+        buffers(cells, marks)
+        take(b"\x3E\xB0\0", (2, 0))
+        take(good, (2, 0))
+    buffers(size)
+    take(good)
+    take(b"", (4, 0))
+    buffers(size)
+    take(frame.check_section(0))
+    take(frame.datagram_section(1))
+    buffers(size)
+    take(frame.datagram_section(0))
+    take(mpe(datagram(rng, 40), address=frame.end), (12, frame.end))
+
+
+# ---- Sections that are refused by themselves, in a burst that has taken some ----
+
+def changed(section, *edits, seal=True):
+    """Bytes (index, bits kept, bits set) are others; CRC_32 is right for them."""
+    section = bytearray(section)
+    for index, keep, bits in edits:
+        section[index] = section[index] & keep | bits
+    return sealed(section[:-4]) if seal else bytes(section)
+
+
+def refused_alone():
+    note("4 to 11, each at its places, also with a later cause: nothing changes")
+    frame = Frame(rng, "rs", 0, [100, 60, 45, 60])
+    begin(frame)
+    for k in (0, 1, 3):
+        take(frame.datagram_section(k))
+    take(frame.check_section(5))
+    address, data = frame.datagrams[2]
+    good, column = mpe(data, address=address), frame.check_section(6, last=63)
+    elsewhere = mpe(data, address=TABLE)     # 12 fits too
+    for size in (0, 1, 3, 15):
+        take(good[:size], (4, 0))
+    take(mpe(datagram(rng, 4081), address=0), (4, 0))
+    take(changed(good[:15] + bytes(4), (2, 0, 16))[:15], (4, 0))
+    for base in (good, column, elsewhere):
+        n = len(base)
+        take(changed(base, (0, 0, 0x40)), (5, 0))
+        take(changed(base, (0, 0, 0x3F), (2, 0, 0)), (5, 0))
+        take(base[:-1], (6, 1))
+        take(changed(base + b"\0"), (6, 1))
+        for index, keep in ((1, 0x7F), (1, 0xDF), (1, 0xEF), (5, 0x7F), (5, 0xBF), (5, 0xFE)):
+            take(changed(base, (index, keep, 0)), (7, index))
+        take(changed(base, (n - 1, 0xFE, ~base[-1] & 1), seal=False), (9, n - 4))
+        take(changed(base, (12, 0x7F, ~base[12] & 0x80), seal=False), (9, n - 4))
+    for bit in range(1, 6):
+        take(changed(good, (5, 0xFF, 1 << bit)), (8, 5))
+    take(changed(elsewhere, (5, 0xFF, 2), (6, 0, 1)), (8, 5))
+    for base in (good, elsewhere):
+        take(changed(base, (6, 0, 1)), (10, 6))
+        take(changed(base, (7, 0, 128)), (10, 7))
+        take(changed(base, (12, 0x0F, 0x50)), (11, 12))
+        take(changed(base, (14, 0, 1)), (11, 12))
+    take(mpe(data + b"\0", address=address), (11, 12))
+    take(mpe(data[:-1], address=address), (11, 12))
+    take(mpe(b"", address=address), (11, 12))
+    take(mpe(datagram(rng, 19), address=address), (11, 12))
+    for edits, place in (([(3, 0, 191)], 3), ([(3, 0, 255), (7, 0, 64)], 3), ([(7, 0, 5)], 6), ([(7, 0, 64)], 7),
+                         ([(11, 0, 1)], 8), ([(10, 0, 7)], 8), ([(9, 0xFC, 1)], 8)):
+        take(changed(column, *edits), (10, place))
+    for size in (0, 255, 257):
+        take(fec(rng.randbytes(size), p=frame.p, s=6), (10, 12))
+    take(column)
+    take(good)
+    take(changed(good, (1, 0xFF, 0x40)))
+    take(changed(column, (1, 0xFF, 0x40), (4, 0, 0), (5, 0xC1, 0)))
+
+    note("with no check columns an MPE-FEC section is always refused under 10")
+    frame = Frame(rng, "bare", 0, [30])
+    begin(frame)
+    for p, s, last, place in ((190, 0, 63, 7), (190, 0, 0, 7), (191, 0, 0, 3), (190, 1, 0, 6)):
+        take(fec(rng.randbytes(R), p=p, s=s, last=last), (10, place))
+    take(frame.datagram_section(0))
+
+    note("what is lawful in a frame of other rows is not in this one")
+    other = Frame(rng, "rs", 1, [40, 30])
+    begin(other)
+    take(fec(rng.randbytes(R), p=190, s=0), (10, 12))
+    take(fec(rng.randbytes(2 * R), p=190, s=1), (10, 8))
+    take(other.check_section(1))
+    take(mpe(datagram(rng, 60), address=2 * TABLE - 60), (12, 2 * TABLE - 60))
+    take(other.datagram_section(1))
+
+
+# ---- 12 ----
+
+def beyond_limit():
+    note("12, while nothing is told: the limit is the table's end")
+    begin(Frame(rng, "rs", 0, [20]))
+    for address, size in ((TABLE - 19, 20), (TABLE - 1, 20), (TABLE, 20), (TABLE + 1, 40), (2 ** 18 - 1, 40), (TABLE - 99, 100)):
+        take(mpe(datagram(rng, size), address=address, tb=address % 2), (12, max(address, TABLE)))
+    take(mpe(datagram(rng, 60), address=TABLE - 60))
+    take(mpe(datagram(rng, 20), address=TABLE - 80))
+
+    note("with E told")
+    frame = Frame(rng, "rs", 0, [40, 60, 50])
+    end = frame.end
+    begin(frame)
+    take(frame.datagram_section(2))
+    for address, size in ((end - 39, 40), (end - 1, 20), (end, 20), (end + 1, 20), (TABLE - 20, 20), (0, end + 1)):
+        for tb in (0, 1):
+            take(mpe(datagram(rng, size), address=address, tb=tb), (12, max(address, end)))
+    take(frame.datagram_section(1))
+    take(frame.datagram_section(0))
+
+    note("with p told, then E")
+    for p in (190, 189, 100, 1, 0):
+        limit = (COLUMNS - p) * R
+        begin(frame)
+        take(fec(frame.check_columns[1], p=p, s=1))
+        for address, size in ((limit - 19, 20), (limit, 20), (limit + 30, 40)):
+            take(mpe(datagram(rng, size), address=address), (12, max(address, limit)))
+            take(mpe(datagram(rng, size), address=address, tb=1), (12, max(address, limit)))
+        take(mpe(datagram(rng, 40), address=limit - 40))
+        take(mpe(datagram(rng, 30), address=limit - 70))
+        last = datagram(rng, 40)
+        take(mpe(last, address=limit - 80, tb=1), (13, limit - 70))
+        start("rs", 0)
+        take(fec(frame.check_columns[1], p=p, s=1))
+        take(mpe(last, address=limit - 50, tb=1))
+        take(mpe(datagram(rng, 20), address=limit - 20), (12, limit - 10))
+
+
+# ---- 13 ----
+
+def flipped(data, index, bit=0):
+    data = bytearray(data)
+    data[index] ^= 1 << bit
+    return bytes(data)
+
+
+def differences():
+    note("13 by a byte: overlaps that agree are taken, and those that differ in one byte are not")
+    frame = Frame(rng, "rs", 0, [100, 60, 45, 300])
+    begin(frame)
+    take(frame.datagram_section(0))
+    address, data = frame.datagrams[0]
+    for index in (8, 50, 98, 99):
+        for bit in (0, 7):
+            take(mpe(flipped(data, index, bit), address=address), (13, address + index))
+    take(mpe(flipped(flipped(data, 70), 20), address=address), (13, 20))
+    take(mpe(data, address=address))
+    # The end of the first datagram is the front of another one.
+    inside = bytearray(data)
+    inside[60:64] = b"\x45\0\0\x40"
+    begin(frame)
+    take(mpe(bytes(inside), address=7))
+    second = bytes(inside[60:]) + rng.randbytes(24)
+    take(mpe(flipped(second, 39), address=67), (13, 106))
+    take(mpe(flipped(second, 40), address=67))
+    take(mpe(second, address=67), (13, 107))
+    take(mpe(bytes(inside), address=7))      # its own first byte, and the one inside, stay starts
+    take(mpe(datagram(rng, 27, 4), address=0), (13, 7))
+    take(mpe(b"\x45\0\0\x1b" + rng.randbytes(3) + inside[:20], address=0))
+    take(mpe(datagram(rng, 20), address=131))
+    take(mpe(datagram(rng, 40, 6), address=130), (13, 130))
+    take(mpe(datagram(rng, 40, 6), address=92), (13, 92))
+
+    note("13 by a byte of a check column: the place is in the RS table")
+    begin(frame)
+    for s in (0, 1, 63):
+        take(frame.check_section(s))
+    for s, index in ((0, 0), (0, 255), (1, 0), (1, 100), (63, 255)):
+        take(fec(flipped(frame.check_columns[s], index, 3), p=frame.p, s=s), (13, s * R + index))
+    take(fec(flipped(frame.check_columns[2], 9), p=frame.p, s=2))
+    take(frame.check_section(2), (13, 2 * R + 9))
+    take(fec(flipped(frame.check_columns[0], 5), p=frame.p - 1, s=0), (13, 5))
+
+    note("a first difference counts before another end, and the limit before both")
+    begin(frame)
+    for k in (0, 1, 3):
+        take(frame.datagram_section(k))
+    address, data = frame.datagrams[1]
+    take(mpe(flipped(data, 40), address=address, tb=1), (13, address + 40))
+    take(mpe(data, address=address, tb=1), (13, address + len(data)))
+    take(mpe(flipped(frame.datagrams[3][1], 9), address=frame.end - 299, tb=1), (12, frame.end))
+
+
+def ends():
+    frame = Frame(rng, "rs", 0, [100, 60, 45, 51, 60, 20])   # the fourth ends a column
+    sections = [frame.datagram_section(k) for k in range(6)]
+
+    def ending(k, **fields):
+        return frame.datagram_section(k, tb=1, **fields)
+
+    note("E told twice: the same is taken, a smaller one is refused under 13, a larger one under 12")
+    begin(frame)
+    take(sections[5])
+    take(sections[5])
+    for k in range(5):
+        take(ending(k), (13, sum(len(data) for _, data in frame.datagrams[:k + 1])))
+    take(mpe(datagram(rng, 20), address=frame.end, tb=1), (12, frame.end))
+    for k in range(5):
+        take(sections[k])
+    take(ending(4), (13, 316))
+    begin(frame)
+    take(ending(2))
+    take(sections[5], (12, 316))
+    take(sections[3], (12, 205))
+
+    note("E below what was received: also by the last byte, and where a datagram begins just there")
+    for others in ((3,), (4,), (5,), (3, 4, 5)):
+        begin(frame)
+        for k in others:
+            take(sections[k])
+        take(ending(2), (13, 205))
+        take(sections[2])
+    begin(frame)
+    take(mpe(datagram(rng, 20), address=TABLE - 20))
+    take(sections[5], (13, frame.end))
+    take(frame.check_section(0), (13, 2 * R))
+    take(fec(frame.check_columns[0], p=0, s=0))
+    take(fec(frame.check_columns[0], p=1, s=0), (13, 190 * R))
+
+    note("p told twice")
+    begin(frame)
+    take(frame.check_section(0))
+    take(frame.check_section(0))
+    take(frame.check_section(1))
+    for p in (frame.p + 1, frame.p - 1, 0, 190):
+        for s in (0, 2):
+            take(fec(frame.check_columns[s], p=p, s=s), (13, (COLUMNS - p) * R))
+    take(frame.check_section(2))
+
+    note("p below what was received: the first cell of its padding, the last of the table")
+    for address, p, said in ((R, 190, (13, R)), (R - 20, 190, TAKEN), (R - 19, 190, (13, R)), (2 * R, 189, (13, 2 * R)),
+                             (TABLE - 20, 1, (13, 190 * R)), (TABLE - R - 20, 1, TAKEN), (TABLE - 20, 0, TAKEN)):
+        begin(frame)
+        take(mpe(datagram(rng, 20), address=address))
+        take(fec(frame.check_columns[0], p=p, s=0), said)
+        take(fec(frame.check_columns[7], p=p, s=7), said)
+
+    note("E and p that fit each other and that do not, in both orders")
+    for end, p in ((256, 190), (256, 189), (257, 189), (257, 190), (20, 190), (20, 0), (20, 189), (512, 189), (512, 188), (513, 188),
+                   (513, 189), (TABLE, 0), (TABLE, 1), (TABLE - R, 0), (TABLE - R, 1), (TABLE - R + 1, 0), (TABLE - R + 1, 1)):
+        right, border = p == COLUMNS - -(-end // R), (COLUMNS - p) * R
+        last, column = mpe(datagram(rng, 20), address=end - 20, tb=1), fec(frame.check_columns[9], p=p, s=9)
+        begin(frame)
+        take(last)
+        take(column, TAKEN if right else (13, border))
+        take(last)
+        begin(frame)
+        take(column)
+        take(last, TAKEN if right else (12, max(border, end - 20)) if border < end else (13, end))
+        take(column)
+
+    note("frame_boundary closes nothing, and table_boundary of a check column tells no E")
+    begin(frame)
+    take(frame.datagram_section(0, fb=1))
+    take(frame.check_section(0, fb=1, tb=1, delta_t=0))
+    take(frame.datagram_section(5, fb=1))
+    take(frame.datagram_section(2, fb=1))
+
+
+# ---- Marks that the caller put there ----
+
+def put_marks():
+    frame = Frame(rng, "rs", 0, [100, 60, 45, 60])
+    address, data = frame.datagrams[1]
+    note("marks of any bytes under a payload: above 4 nothing is known, a 2 stays a 2")
+    begin(frame)
+    for first in range(0, 256, 4):
+        put(rng.choice((0, *range(5, 256))), first, 4)
+    take(frame.datagram_section(1))
+    take(frame.datagram_section(0))
+    put(2, 7)
+    put(2, address + 59)
+    put(3, address, 20)
+    put(4, address + 20, 20)
+    put(9, address + 40, 10)
+    take(frame.datagram_section(1))
+    take(frame.datagram_section(0))
+    start("rs", 0)
+    for k, mark in enumerate(rng.sample(range(5, 256), 40)):
+        put(mark, address + k)
+        put(mark, TABLE + k)
+    take(frame.datagram_section(1))
+    take(frame.check_section(0))
+
+    note("marks that say a byte is known, of which the cell has another one or the same")
+    for mark in range(7):
+        begin(frame)
+        put(mark, 33)
+        take(frame.datagram_section(0), (13, 33) if 1 <= mark <= 4 else TAKEN)
+        start("rs", 0)
+        take(mpe(flipped(frame.datagrams[0][1], 33), address=0))
+        put(mark, 0, 100)
+        take(frame.datagram_section(0), (13, 33) if 1 <= mark <= 4 else TAKEN)
+        start("rs", 0)
+        take(frame.check_section(4))
+        put(mark, TABLE + 4 * R, R)
+        take(fec(flipped(frame.check_columns[4], 200), p=frame.p, s=4), (13, 4 * R + 200) if 1 <= mark <= 4 else TAKEN)
+        put(mark, TABLE + 4 * R, R)
+        take(frame.check_section(4))
+
+    note("marks behind an end: only 1 and 2 are received, and padding takes all others")
+    for mark in (*range(7), 255):
+        for place in (frame.end, TABLE - 1):
+            begin(frame)
+            put(mark, place)
+            take(frame.datagram_section(3), (13, frame.end) if mark in (1, 2) else TAKEN)
+        begin(frame)
+        put(mark, frame.end - 1)
+        put(mark, TABLE)
+        take(frame.check_section(0), (13, 0) if 1 <= mark <= 4 else TAKEN)
+        take(frame.datagram_section(2))
+    begin(frame)
+    put(4, 0, TABLE)
+    put(1, TABLE, 64 * R)
+    put(0, frame.datagrams[3][0], 60)
+    take(frame.datagram_section(3))
+
+
+def at_random():
+    note("sections at random")
+    for _ in range(4):
+        for line in random_burst(rng, 25, most=200):
+            lines.append(line)
+            if line.split(" ")[0] in ("start", "take"):
+                due.append(None)
+
+
+# ---- The files ----
+
+FOLDER = sys.argv[1] if len(sys.argv) > 1 else ROOT
+lines, due = [], []
+rng = random.Random(191256)
+for cases in (starts, lawful, refused_alone, beyond_limit, differences, ends, put_marks, at_random):
+    if lines:
+        lines.append("")
+    cases()
+# The last line ends with a carriage return too, which makes no difference.
+read = "\n".join(lines) + "\r\n"
+told = reference.answers(read)
+calls = [line for line in lines if line.split(" ")[0] in ("start", "take")]
+assert len(calls) == len(due) == len(told.splitlines())
+for number, (line, said, answer) in enumerate(zip(calls, due, told.splitlines())):
+    word, *rest = answer.split(" ")
+    found = (int(rest[0]), int(rest[2])) if word == "refused" else word
+    assert said in (None, found), (number, line[:100], said, answer)
+store("crates/bursttake/stdin", read)
+store("crates/bursttake/stdout", told)

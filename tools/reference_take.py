@@ -1,0 +1,192 @@
+#!/usr/bin/python3
+"""Make the calls start and take of a receiver that the lines of standard input ask
+for, and print what each answers, with the CRC_32 of the cells and of the marks
+afterwards. Written from the rules alone, plain and slow, to be held against another
+program. A line is
+
+  buffers CELLS MARKS     buffers of so many bytes from now on, 0xAA and 0xC8 in them
+  put MARK FROM COUNT     a byte into so many marks, from one on
+  start CODE SIZE         CODE is `rs` or `bare`
+  take ARRIVAL SECTION    the section in hex, `-` for no bytes
+
+Lines that are empty or begin with # are passed over. A line is answered by `started`,
+`taken` or `refused NUMBER LAYER PLACE`, and then the two checksums."""
+import sys
+import zlib
+
+sys.dont_write_bytecode = True
+import reference_list as reference
+
+COLUMNS = 191                                # of the application table
+CHECK_COLUMNS = {"rs": 64, "bare": 0}
+ROWS = {0: 256, 1: 512, 2: 768, 3: 1024}     # by the size code
+CELL, MARK = 0xAA, 0xC8                      # what new buffers hold
+UNKNOWN, RECEIVED, START, PADDING, FILLED = range(5)
+MIRRORED = bytes(int(f"{byte:08b}"[::-1], 2) for byte in range(256))
+
+
+def crc32_mirrored(data):
+    """CRC_32 by zlib's, which is the same with the bits the other way round."""
+    register = zlib.crc32(data.translate(MIRRORED)) ^ 0xFFFFFFFF
+    return int(f"{register:032b}"[::-1], 2)
+
+
+def is_known(mark):
+    return mark in (RECEIVED, START, PADDING, FILLED)
+
+
+def is_received(mark):
+    return mark in (RECEIVED, START)
+
+
+class Section:
+    """What a section says that refusals 4 to 11 let pass."""
+
+    def __init__(self, section):
+        _, self.table_boundary, _, self.address = reference.timing(section)
+        self.is_datagram = section[0] == 0x3E
+        self.payload = section[12:-4]
+        self.after = self.address + len(self.payload)
+        self.end = self.after if self.is_datagram and self.table_boundary else None
+        self.padding_columns = None if self.is_datagram else section[3]
+
+
+class Burst:
+    def __init__(self, code, size_code):
+        self.check_columns, self.rows = CHECK_COLUMNS[code], ROWS[size_code]
+        self.table = COLUMNS * self.rows     # cells of the application table
+        self.end = self.padding_columns = None   # E and p, as far as told
+
+    def fits(self, cells, marks):
+        size = (COLUMNS + self.check_columns) * self.rows
+        return len(cells) == len(marks) == size
+
+    def border(self, padding_columns):
+        """Where the last columns begin that have nothing but padding."""
+        return (COLUMNS - padding_columns) * self.rows
+
+    def limit(self):
+        if self.end is not None:
+            return self.end
+        return self.table if self.padding_columns is None else self.border(self.padding_columns)
+
+    def told_end(self, section):
+        """Where the section tells padding to begin; none if it tells nothing."""
+        return section.end if section.is_datagram else self.border(section.padding_columns)
+
+    def first_cell(self, section):
+        return section.address if section.is_datagram else self.table + section.address
+
+    def told_otherwise(self, section):
+        """Whether E or p was told before, and is another or does not fit it."""
+        for before, now in ((self.end, section.end), (self.padding_columns, section.padding_columns)):
+            if before is not None and now is not None and before != now:
+                return True
+        for end, columns in ((self.end, section.padding_columns), (section.end, self.padding_columns)):
+            if end is not None and columns is not None:
+                if not self.border(columns + 1) < end <= self.border(columns):
+                    return True
+        return False
+
+    def refusal(self, data, cells, marks):
+        """(number, place) of the first rule by which take refuses, else None."""
+        if not self.fits(cells, marks):
+            return 2, 0
+        no = reference.refusal(data, self.rows, self.check_columns)
+        if no:
+            return no
+        section = Section(data)
+        if section.is_datagram and section.after > self.limit():
+            return 12, max(section.address, self.limit())
+        first = self.first_cell(section)
+        for k, byte in enumerate(section.payload):
+            if is_known(marks[first + k]) and cells[first + k] != byte:
+                return 13, section.address + k
+        end = self.told_end(section)
+        if end is not None:
+            if self.told_otherwise(section) or any(map(is_received, marks[end:self.table])):
+                return 13, end
+        return None
+
+    def take(self, data, cells, marks):
+        """Take a section; or (number, place) of its refusal, and nothing is done."""
+        no = self.refusal(data, cells, marks)
+        if no:
+            return no
+        section = Section(data)
+        first = self.first_cell(section)
+        for k, byte in enumerate(section.payload):
+            cells[first + k] = byte
+            if marks[first + k] != START:
+                marks[first + k] = RECEIVED
+        if section.is_datagram:
+            marks[first] = START
+        end = self.told_end(section)
+        if end is not None:
+            cells[end:self.table] = bytes(self.table - end)
+            marks[end:self.table] = bytes([PADDING]) * (self.table - end)
+        if section.end is not None:
+            self.end = section.end
+        if section.padding_columns is not None:
+            self.padding_columns = section.padding_columns
+        return None
+
+
+class Receiver:
+    """The buffers that are lent now, and the burst that was started last."""
+
+    def __init__(self):
+        self.cells, self.marks, self.burst = bytearray(), bytearray(), None
+
+    def start(self, code, size_code):
+        if size_code not in ROWS:
+            return 1, 0
+        burst = Burst(code, size_code)
+        if not burst.fits(self.cells, self.marks):
+            return 2, 0
+        self.marks[:] = bytes(len(self.marks))   # every mark is 0 now
+        self.burst = burst
+        return None
+
+    def report(self, done, no):
+        if no:
+            number, place = no
+            layer = "call" if number < 4 else "table" if number > 11 else "section"
+            done = f"refused {number} {layer} {place}"
+        return "%s %08X %08X" % (done, crc32_mirrored(self.cells), crc32_mirrored(self.marks))
+
+    def answer(self, line):
+        """The line to print for a line that was read; none for one that makes no call."""
+        if line == "" or line.startswith("#"):
+            return None
+        call, *words = line.split(" ")
+        if call == "buffers":
+            cells, marks = map(int, words)
+            self.cells, self.marks = bytearray([CELL] * cells), bytearray([MARK] * marks)
+            return None
+        if call == "put":
+            mark, first, count = map(int, words)
+            assert first + count <= len(self.marks), line
+            self.marks[first:first + count] = bytes([mark]) * count
+            return None
+        if call == "start":
+            code, size_code = words
+            return self.report("started", self.start(code, int(size_code)))
+        assert call == "take", line
+        arrival, section = words
+        assert int(arrival) < 1 << 32 and self.burst, line
+        data = bytes.fromhex("" if section == "-" else section)
+        return self.report("taken", self.burst.take(data, self.cells, self.marks))
+
+
+def answers(text):
+    """The whole output for a whole input."""
+    receiver = Receiver()
+    lines = map(receiver.answer, text.splitlines())
+    return "".join(line + "\n" for line in lines if line is not None)
+
+
+assert crc32_mirrored(b"123456789") == 0x0376E6E7
+
+if __name__ == "__main__":
+    sys.stdout.write(answers(sys.stdin.read()))

@@ -1,0 +1,187 @@
+#!/usr/bin/python3
+"""take_compare.py PROGRAM [SEED [BURSTS]]: make bursts at random, have PROGRAM
+(bursttake) take their sections, and hold each answer, and the checksums of cells and
+marks after it, against the second receiver. The seed is another one each time, and is
+printed: with it the same bursts come again. Without BURSTS there are 40, of 40 lines
+each. Ends with status 1 on a difference.
+
+The scripts that make the stored bursts have datagrams and frames from here too."""
+import collections
+import random
+import struct
+import subprocess
+import sys
+
+sys.dont_write_bytecode = True
+import reference_take as reference
+from reference_take import CHECK_COLUMNS, COLUMNS, ROWS
+from reference_write import fec, mpe, sealed
+
+MOST = 4080                                  # bytes of a datagram
+
+
+def datagram(rng, size, version=None):
+    """So many bytes that are one whole datagram, by version and length alone."""
+    version = version or (4 if size < 40 else rng.choice((4, 4, 6)))
+    head = struct.pack(">BBH", 0x45, 0, size) if version == 4 else struct.pack(">IH", 6 << 28, size - 40)
+    return head + rng.randbytes(size - len(head))
+
+
+def sizes_for(rng, end, most=MOST):
+    """Sizes of datagrams that end there: 20 bytes or more."""
+    sizes = []
+    while end > most or sizes == [] and end > 100:
+        sizes.append(rng.randint(20, min(most, end - 20)))
+        end -= sizes[-1]
+    return sizes + [end]
+
+
+class Frame:
+    """A frame as a sender lays it out, but with any bytes as check columns: take knows
+    no codewords."""
+
+    def __init__(self, rng, code, size_code, sizes):
+        self.code, self.size_code, self.rng = code, size_code, rng
+        self.rows, self.columns = ROWS[size_code], CHECK_COLUMNS[code]
+        self.size = (COLUMNS + self.columns) * self.rows
+        self.datagrams, self.end = [], 0     # (address, datagram)
+        for size in sizes:
+            self.datagrams.append((self.end, datagram(rng, size)))
+            self.end += size
+        assert self.end <= COLUMNS * self.rows
+        self.p = COLUMNS - -(-self.end // self.rows)
+        self.check_columns = [rng.randbytes(self.rows) for _ in range(self.columns)]
+
+    def loose(self):
+        """Fields that may have any value."""
+        return dict(delta_t=self.rng.choice((0, 500, self.rng.randrange(4096))), fb=self.rng.randrange(2))
+
+    def datagram_section(self, k, **fields):
+        address, data = self.datagrams[k]
+        fields = dict(address=address, tb=int(address + len(data) == self.end), **self.loose()) | fields
+        return mpe(data, self.rng.randrange(256), self.rng.randrange(256), **fields)
+
+    def check_section(self, s, **fields):
+        fields = dict(p=self.p, s=s, last=self.rng.randint(s, self.columns - 1), address=s * self.rows,
+                      tb=self.rng.randrange(2), **self.loose()) | fields
+        return fec(self.check_columns[s], **fields)
+
+    def buffers(self):
+        return f"buffers {self.size} {self.size}"
+
+    def start(self):
+        return f"start {self.code} {self.size_code}"
+
+
+def take_line(rng, section):
+    return f"take {rng.choice((0, 2 ** 32 - 1, rng.randrange(2 ** 32)))} {section.hex().upper() or '-'}"
+
+
+# ---- Bursts at random ----
+
+def some_end(rng, rows):
+    """An E: small, close to the end of a column, or close to that of the table."""
+    table = COLUMNS * rows
+    near = rng.choice((rng.randint(1, 20) * rows, table, rng.randint(1, COLUMNS) * rows))
+    return min(table, max(20, rng.choice((rng.randint(20, 3000), near + rng.randint(-2, 2), near, table - rng.randrange(40)))))
+
+
+def lawful_section(rng, frame):
+    if frame.columns and rng.randrange(3) == 0:
+        return frame.check_section(rng.randrange(min(frame.columns, rng.choice((4, 64)))))
+    last = len(frame.datagrams) - 1
+    return frame.datagram_section(rng.choice((last, *(rng.randint(0, last) for _ in range(5)))))
+
+
+def of_another_frame(rng, frame, limit):
+    """A section that reads well, whose place, end or bytes may be others."""
+    if frame.columns and rng.randrange(3) == 0:
+        p = min(190, max(0, frame.p + rng.choice((0, 0, 1, -1, rng.randint(-190, 190)))))
+        s = rng.randrange(min(frame.columns, 6))
+        column = bytearray(frame.check_columns[s])
+        column[rng.choice((0, -1, rng.randrange(frame.rows)))] ^= rng.choice((0, 1, 0x80))
+        return fec(bytes(column), p=p, s=s, last=63, address=s * frame.rows, **frame.loose())
+    address, data = rng.choice(frame.datagrams)
+    kind = rng.randrange(4)
+    if kind == 0:                            # one byte of a datagram is another
+        data = bytearray(data)
+        data[rng.choice((-1, rng.randrange(6, len(data))))] ^= rng.choice((1, 0x80))
+        data = bytes(data)
+    elif kind == 1:                          # it stands elsewhere
+        address = max(0, address + rng.choice((-1, 1, rng.randint(-300, 300))))
+    elif kind == 2:                          # around the limit
+        data = datagram(rng, rng.randint(20, 100))
+        address = max(0, limit - rng.choice((len(data), len(data) + 1, len(data) - 1, 0, -1, rng.randrange(300))))
+    return mpe(data, address=address % 2 ** 18, tb=int(rng.randrange(4) == 0), **frame.loose())
+
+
+def damaged(rng, section):
+    """Any bytes are others; often CRC_32 is right again, so that later rules are asked."""
+    section = bytearray(section)
+    for _ in range(rng.randint(1, 2)):
+        section[rng.choice((0, 1, 2, 3, 5, 6, 7, 8, 10, 11, 12, 14, rng.randrange(len(section))))] ^= 1 << rng.randrange(8)
+    if rng.randrange(4) == 0:
+        section = section[:rng.randrange(len(section))] + rng.randbytes(rng.choice((0, 0, 9)))
+    return sealed(section[:-4]) if rng.randrange(3) else bytes(section)
+
+
+def random_burst(rng, count, most=MOST):
+    """So many lines, nearly all of them sections that a burst is to take."""
+    code = rng.choice(("rs", "rs", "rs", "bare"))
+    size_code = rng.choice((0, 0, 0, 0, 1, 2, 3))
+    frame = Frame(rng, code, size_code, sizes_for(rng, some_end(rng, ROWS[size_code]), most))
+    lines = [frame.buffers(), frame.start()]
+    while len(lines) < count:
+        kind = rng.randrange(100)
+        if kind < 45:
+            lines.append(take_line(rng, lawful_section(rng, frame)))
+        elif kind < 75:
+            limit = rng.choice((frame.end, (COLUMNS - frame.p) * frame.rows, COLUMNS * frame.rows))
+            lines.append(take_line(rng, of_another_frame(rng, frame, limit)))
+        elif kind < 88:
+            lines.append(take_line(rng, damaged(rng, lawful_section(rng, frame))))
+        elif kind < 96:
+            first = rng.choice((frame.end, rng.randrange(frame.size))) % frame.size
+            lines.append(f"put {rng.choice((0, 1, 2, 3, 4, 5, rng.randrange(256)))} {first} "
+                         f"{rng.randint(0, min(60, frame.size - first))}")
+        elif kind < 98:
+            lines.append(f"start {rng.choice(('rs', 'bare', code))} {rng.choice((0, 1, size_code, rng.randrange(256)))}")
+        else:
+            lines.append(f"buffers {frame.size - rng.randrange(2)} {frame.size - rng.randrange(2)}")
+            lines.append(take_line(rng, lawful_section(rng, frame)))
+            lines.append(frame.buffers())
+    return lines
+
+
+def outcome(answer):
+    """An answer without its place and the checksums."""
+    words = answer.split(" ")
+    return " ".join(words[:2]) if words[0] == "refused" else words[0]
+
+
+def main(program, seed=None, bursts=40):
+    seed = random.SystemRandom().randrange(10 ** 9) if seed is None else int(seed)
+    print(f"seed {seed}")
+    rng = random.Random(seed)
+    lines = [line for _ in range(int(bursts)) for line in random_burst(rng, 40)]
+    ran = subprocess.run([program], input="".join(line + "\n" for line in lines), stdout=subprocess.PIPE, text=True)
+    got, want = ran.stdout.splitlines(), reference.answers("\n".join(lines)).splitlines()
+    different, counts = int(ran.returncode != 0), collections.Counter(map(outcome, want))
+    if ran.returncode:
+        print(f"DIFFERENT: {program} ended with status {ran.returncode}")
+    if len(got) != len(want):
+        print(f"DIFFERENT: {len(want)} calls, {len(got)} answers")
+        different += 1
+    calls = (number for number, line in enumerate(lines, 1) if line.split(" ")[0] in ("start", "take"))
+    for number, printed, due in zip(calls, got, want):
+        if printed != due:
+            different += 1
+            if different < 10:
+                print(f"DIFFERENT: line {number}\n  {lines[number - 1][:200]}\n  printed {printed}\n  due     {due}")
+    print(f"{len(want)} calls compared, {different} differences")
+    print("  " + ", ".join(f"{name}: {counts[name]}" for name in sorted(counts, key=lambda name: (len(name), name))))
+    return 1 if different else 0
+
+
+if __name__ == "__main__":
+    sys.exit(main(*sys.argv[1:]))
