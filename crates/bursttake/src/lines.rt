@@ -41,7 +41,7 @@ pub fn is_passed_over(line: &str) -> bool
 }
 
 /// What a line asks for.
-pub fn requested(heap: Global, line: &str) -> anyhow::Result<Request> {
+pub(crate) fn requested(heap: Global, line: &str) -> anyhow::Result<Request> {
     let words: Vec<&str> = line.split(' ').collect(heap)?;
     match words.as_slice() {
         ["buffers", cells, marks] => Ok(Request::Buffers {

@@ -262,7 +262,7 @@ impl Reception {
 }
 
 /// Shows what take does, step by step. It is an error if a step does not come out as it is told.
-pub fn show(out: &mut impl Write, alloc: Global) -> anyhow::Result<()> {
+pub(crate) fn show(out: &mut impl Write, alloc: Global) -> anyhow::Result<()> {
     let rows = Rows::of_size_code(SIZE_CODE)?;
     let sent = make_frame(out, alloc, rows)?;
     writeln!(out)?;

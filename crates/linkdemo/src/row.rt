@@ -180,7 +180,7 @@ fn lose_40_of_a_wrong_row(
 }
 
 /// Shows what a row code does, step by step. It is an error if a step does not come out as it is told.
-pub fn show(out: &mut impl Write, code: &mut impl RowCode) -> anyhow::Result<()> {
+pub(crate) fn show(out: &mut impl Write, code: &mut impl RowCode) -> anyhow::Result<()> {
     let sent = spread_text(out, code)?;
     writeln!(out)?;
     lose_64(out, code, &sent)?;

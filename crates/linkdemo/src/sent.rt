@@ -1,4 +1,7 @@
 //! The frame that is sent: three datagrams, padding behind them, and check bytes in each row.
+ghost use Rattle.std.specs.Prelude.{◌≡◌, ◌≢◌, ℕ, ◌<◌, ◌≤◌, length, IfOk};
+ghost use Rattle.octets.specs.Octets.{byte, word16};
+
 use anyhow::ensure;
 use frame_row::{ScratchGuard, gather, scatter};
 use geometry::Rows;
@@ -10,13 +13,13 @@ use std::io::Write;
 
 /// A datagram of the frame: its address and its length.
 #[derive(Clone, Copy)]
-pub struct Placed {
-    pub address: u16,
-    pub length: u16,
+pub(crate) struct Placed {
+    pub(crate) address: u16,
+    pub(crate) length: u16,
 }
 
 /// They lie end to end from address 0.
-pub const DATAGRAMS: [Placed; 3] = [
+pub(crate) const DATAGRAMS: [Placed; 3] = [
     Placed {
         address: 0,
         length: 200,
@@ -32,19 +35,27 @@ pub const DATAGRAMS: [Placed; 3] = [
 ];
 
 /// E, the address after the last.
-pub const END: usize = 600;
+pub(crate) const END: usize = 600;
 
-/// Fills the bytes with a letter, and then writes the first bytes of an IPv4 datagram of this length over them.
-pub fn fill_datagram(bytes: &mut [u8], length: u16, letter: u8) {
+/// Fills the bytes with a letter, and then writes the first bytes of an IPv4 datagram that tells this length over them.
+pub(crate) fn fill_datagram(bytes: &mut [u8], told: u16, letter: u8)
+    ensures size { length bytes.new ≡ length bytes.old }
+    ensures head { 4 ≤ length bytes.old → (byte bytes.new 0 ≡ 0x45) × (word16 bytes.new 2 ≡ told) }
+    ensures letters { (i : ℕ) → i < length bytes.old → i ≢ 0 → i ≢ 2 → i ≢ 3 → byte bytes.new i ≡ letter }
+{
     bytes.fill(letter);
-    if let [version, _, high, low, ..] = bytes {
-        *version = 0x45;
-        [*high, *low] = length.to_be_bytes();
+    if bytes.len() >= 4 {
+        let [high, low] = told.to_be_bytes();
+        bytes[0] = 0x45;
+        bytes[2] = high;
+        bytes[3] = low;
     }
 }
 
 /// The cells of the frame, without check bytes: the datagrams, A, B and C in their bytes, and zeros.
-pub fn application_cells(alloc: Global, size: usize) -> Result<Vec<u8>, AllocError> {
+pub(crate) fn application_cells(alloc: Global, size: usize) -> Result<Vec<u8>, AllocError>
+    ensures { IfOk result (λ cells. length cells.items ≡ size) }
+{
     let mut cells = vec![in alloc; 0u8; size]?;
     for (placed, letter) in DATAGRAMS.iter().zip(b'A'..=b'C') {
         let first = usize::from(placed.address);
@@ -66,7 +77,11 @@ fn spread_row(rows: Rows, row: u16, cells: &mut [u8], scratch: &mut [u8]) -> any
 }
 
 /// Spreads each row of the frame. It must then be a codeword, and the scratch row all zero.
-pub fn spread_rows(out: &mut impl Write, rows: Rows, cells: &mut [u8]) -> anyhow::Result<()> {
+pub(crate) fn spread_rows(
+    out: &mut impl Write,
+    rows: Rows,
+    cells: &mut [u8],
+) -> anyhow::Result<()> {
     let mut scratch = [0xFF; ROW];
     // `as`: there are 1,024 rows at most, and `From` narrows nothing.
     for row in 0..rows.count() as u16 {
