@@ -1,8 +1,8 @@
 # Two commands do everything on a machine that has the Rattle kit: `make demo` and `make test`.
 .PHONY: demo test outside
 
-# Proves what the programs need, builds them and runs them on a sample burst, a row and a burst that takes sections, step by
-# step.
+# Proves what the programs need, builds them and runs them on a sample burst, a row, and bursts that take sections and are
+# closed, step by step.
 demo:
 	@tools/demo.sh
 

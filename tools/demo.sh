@@ -1,6 +1,6 @@
 #!/usr/bin/env bash
 # One real job from beginning to end: the programs are proved, built and run on the sample burst, a row is protected,
-# damaged and mended, and a burst takes sections. Each step is told.
+# damaged and mended, and bursts take sections and are closed. Each step is told.
 set -euo pipefail
 cd "$(dirname "${BASH_SOURCE[0]}")/.."
 burst=samples/burst.bin
@@ -49,7 +49,8 @@ echo "   These are the 216 bytes that the file begins with, CRC_32 included."
 
 echo
 echo "6. Protect a row of a frame with RS(255,191), damage it and mend it; then have a burst take the sections of a frame, and"
-echo "   others among them (target/bin/linkdemo; what it tells has come out in this run, or it ends with an error):"
+echo "   others among them, and close one with a loss and a forgery (target/bin/linkdemo; what it tells has come out in this"
+echo "   run, or it ends with an error):"
 target/bin/linkdemo | sed 's/^./   &/'
 
 echo

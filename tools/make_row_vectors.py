@@ -1,7 +1,7 @@
 #!/usr/bin/python3
 """Make the stored files of the programs that work on rows anew, always the same
 bytes; what is to come out of a row is libfec's, and of the bare code's the rule's; what
-becomes of the sections of the demonstration's burst is the second receiver's:
+becomes of the demonstration's bursts is the second receiver's:
 
   crates/rowmend/stdin       rows to mend and to spread, a line each
   crates/rowmend/stdout      the answers

@@ -1,10 +1,10 @@
 #!/usr/bin/python3
-"""Make the stored files of the program that has bursts take sections, always the same
-bytes; what is to come of each call is the second receiver's, and what a case was made
-to be:
+"""Make the stored files of the program that has bursts take sections and closes them,
+always the same bytes; what is to come of each call is the second receiver's, and what a
+case was made to be:
 
-  crates/bursttake/stdin     buffers, starts and sections, a line each
-  crates/bursttake/stdout    the answers, and checksums of cells and marks
+  crates/bursttake/stdin     buffers, starts, sections and closes, a line each
+  crates/bursttake/stdout    the answers, and checksums of the buffers
 
 make_take_vectors.py [FOLDER] writes below FOLDER; without it, below the repository's
 root. Needs no package."""
@@ -16,7 +16,7 @@ sys.dont_write_bytecode = True
 import reference_take as reference
 from reference_take import COLUMNS, ROWS
 from reference_write import fec, mpe, sealed
-from take_compare import Frame, datagram, random_burst, take_line
+from take_compare import CALLS, Frame, datagram, random_burst, take_line
 
 ROOT = os.path.dirname(os.path.dirname(os.path.abspath(__file__)))
 R, TABLE = ROWS[0], COLUMNS * ROWS[0]
@@ -49,10 +49,16 @@ def start(code, size_code, said=STARTED):
     due.append(said)
 
 
-def take(section, said=TAKEN):
+def take(section, said=TAKEN, arrival=None):
     """`said`: TAKEN, or the (number, place) of a refusal."""
-    lines.append(take_line(rng, section))
+    lines.append(take_line(rng, section) if arrival is None else f"take {arrival} {section.hex().upper()}")
     due.append(said)
+
+
+def close(said, rows=R, scratch=255, names=None):
+    """`said`: the tallies, with or without the wake order behind them, or as of take."""
+    lines.append(f"close {scratch} {rows if names is None else names}")
+    due.append(" ".join(map(str, ("closed", *said))) if said and len(said) > 2 else said)
 
 
 def begin(frame):
@@ -466,12 +472,191 @@ def put_marks():
     take(frame.datagram_section(3))
 
 
+# ---- Closes ----
+
+def all_taken(code="rs", size_code=0, sizes=(100, 60, 45, 300, 95)):
+    """A lawful frame, whose datagrams a burst has taken, and no check column."""
+    frame = Frame(rng, code, size_code, sizes, lawful=True)
+    begin(frame)
+    take_all(frame, sections_of(frame, ()))
+    return frame
+
+
+def known_but(*unknown):
+    """The same cells in another burst, all known but these parts."""
+    start("rs", 0)
+    put(1, 0, (COLUMNS + 64) * R)
+    for first, count in unknown:
+        put(0, first, count)
+
+
+def fillings():
+    note("no check column came, so 64 bytes of each row are missing: all are filled, and the check columns with them")
+    all_taken()
+    close((R, 0, 0))
+    note("of the same cells others are missing: 65 in each row; 65 in some, 64 in the others")
+    known_but((0, 65 * R))
+    close((0, 0, R))
+    known_but((0, 64 * R), (70 * R + 100, 56))
+    close((200, 0, 56))
+    lost = [0, 190, 191, 254, *rng.sample([*range(1, 190), *range(192, 254)], 60)]
+    kept = [c for c in range(COLUMNS + 64) if c not in lost]
+    known_but(*((c * R, R) for c in lost), (kept[0] * R, 1), (kept[100] * R + 44, 1), (kept[-1] * R + 255, 1))
+    close((253, 0, 3))
+    note("all known, under each mark that says so; then one byte, one column, and most of a row missing")
+    known_but()
+    close((R, 0, 0))
+    known_but()
+    for mark in (2, 3, 4):
+        put(mark, 3 * mark * R + 5, 2 * R)
+    close((R, 0, 0))
+    for part in ((1000, 1), (255 * R - 1, 1), (77 * R, R)):
+        known_but(part)
+        close((R, 0, 0))
+    known_but(*((c * R + 9, 1) for c in range(0, 255, 2)))
+    close((255, 0, 1))
+    note("the other sizes; no section at all, or none but one that tells p")
+    all_taken("rs", 3, (1500, 24, 600))
+    close((1024, 0, 0), 1024)
+    all_taken("rs", 2, (60, 900))
+    put(9, 7)
+    close((767, 0, 1), 768)
+    for code, size_code, rows in (("rs", 0, R), ("rs", 1, 512), ("bare", 2, 768)):
+        frame = Frame(rng, code, size_code, [20], lawful=True)
+        begin(frame)
+        close((0, 0, rows, "unknown"), rows)
+    begin(Frame(rng, "rs", 0, [20]))
+    take(fec(rng.randbytes(R), p=190, s=0))
+    close((R, 0, 0))                         # any 191 bytes begin a codeword, at any places
+
+
+def tearings():
+    note("forged check columns with a right CRC_32: each row with a wrong byte is torn, and nothing is known there then")
+    frame = all_taken()
+    take(frame.check_section(0))
+    take(fec(flipped(flipped(frame.check_columns[5], 7), 8, 6), p=frame.p, s=5))
+    take(fec(flipped(frame.check_columns[63], 255, 7), p=frame.p, s=63))
+    close((253, 3, 0))
+    note("a forged datagram, with one check column and with none: 192 known bytes contradict each other, 191 cannot")
+    for numbers, tallies in (((0,), (255, 1, 0)), ((), (R, 0, 0))):
+        begin(frame)
+        take(mpe(flipped(frame.datagrams[0][1], 50, 3), address=0))
+        take_all(frame, sections_of(frame, numbers)[1:])
+        close(tallies)
+    note("a byte is wrong in rows with 65, 64 and 63 missing: one open, one filled with other bytes, one torn")
+    begin(frame)
+    column = flipped(flipped(flipped(frame.check_columns[1], 0), 40), 120)
+    take(fec(column, p=frame.p, s=1))
+    for k in (1, 2, 3, 4):                   # the first datagram is missing: a byte of the rows 0 to 99
+        take(frame.datagram_section(k))
+    put(0, 100 * R)
+    put(0, 101 * R + 10, 5)
+    close((249, 1, 6))
+    note("bytes that nobody sent: rows of 0xAA are torn, and 191 bytes of them are filled")
+    begin(frame)
+    put(1, 0, frame.size)
+    put(0, 0, 64)
+    for k in range(64):
+        put(0, (2 * k + 1) * R + 200, 3)
+    close((3, 253, 0))
+
+
+def other_marks():
+    note("marks above 4: nothing is known; they are 4 in filled rows, and stay in open ones")
+    frame = all_taken()
+    put(5, 0, 100)
+    put(200, 100, 156)
+    take(frame.check_section(3))
+    close((R, 0, 0))
+    known_but()
+    for k, mark in enumerate(rng.sample(range(5, 256), 64)):
+        put(mark, 3 * k * R, R)
+    put(255, 2 * R + 8, 3)
+    close((253, 0, 3))
+
+    note("any marks over the cells of a lawful frame, and over cells that nobody wrote")
+    for _ in range(2):
+        start("rs", 0)
+        first = 0
+        while first < frame.size:
+            count = min(rng.randint(20, 800), frame.size - first)
+            put(rng.choice((1, 2, rng.choice((3, 4)), rng.randrange(256))), first, count)
+            first += count
+        close(None)
+        begin(frame)
+    close((0, 0, R, "unknown"))
+
+
+def bare_closes():
+    note("bare: a row is filled where all of it is known")
+    frame = all_taken("bare", 0, (300, 40, 200))
+    close((R, 0, 0))
+    start("bare", 0)
+    take(frame.datagram_section(0))
+    take(frame.datagram_section(2))
+    close((216, 0, 40))
+    begin(frame)
+    put(1, 0, TABLE)
+    put(77, 100 * R + 255, 2)                # the last cell of a column and the first of the next
+    close((254, 0, 2))
+
+
+def refused_closes():
+    size = (COLUMNS + 64) * R
+    note("2 before 3, and nothing is done: the burst goes on, and is closed at last")
+    frame = Frame(rng, "rs", 0, [60, 40], lawful=True)
+    begin(frame)
+    take(frame.datagram_section(0))
+    for scratch, names in ((254, R), (256, R), (0, R), (191, R), (255, 255), (255, 257), (255, 0), (255, 512), (R, 255)):
+        close((3, 0), scratch=scratch, names=names)
+    take(frame.datagram_section(0))
+    for cells, marks in ((size - 1, size), (size, size + 1), (0, 0), (TABLE, TABLE), (2 * size, 2 * size)):
+        buffers(cells, marks)
+        close((2, 0))
+        close((2, 0), scratch=254, names=255)
+    buffers(size)
+    close((3, 0), names=0)
+    take(frame.datagram_section(1))
+    take(mpe(datagram(rng, 20), address=100), (12, 100))
+    close((196, 0, 60))
+    note("bare: the scratch row is to have 255 bytes, too")
+    all_taken("bare", 1, (60, 40))
+    for scratch, names in ((191, 512), (255, 256), (254, 511)):
+        close((3, 0), scratch=scratch, names=names)
+    close((512, 0, 0), 512)
+
+
+def wakes():
+    note("when the radio is needed again: by the section taken last, repeated or not, and by none that was refused")
+    frame, most = Frame(rng, "bare", 0, [20], lawful=True), 2 ** 32 - 1
+    beyond = mpe(datagram(rng, 20), address=20, delta_t=7)
+    for moments, wake in (
+            ([(0, 1)], 10), ([(0, 4095)], 40950), ([(most, 4095)], 4295008245), ([(most, 1)], 4294967305),
+            ([(most, 0)], "end"), ([(0, 0)], "end"), ([(7, 0), (8, 4095)], 40958), ([(7, 9), (8, 0)], "end"),
+            ([(most, 500), (3, 2)], 23), ([(1000, 500), (2000, 500)], 7000),
+            ([(1000, 500), None], 6000), ([(1000, 500), None, (4, 8), None], 84)):
+        begin(frame)
+        for moment in moments:
+            if moment:
+                take(frame.datagram_section(0, delta_t=moment[1]), arrival=moment[0])
+            else:
+                take(beyond, (12, 20), 9)
+        close((R, 0, 0, wake))
+    begin(frame)
+    take(frame.datagram_section(0)[:-1], (6, 1), 5)
+    close((0, 0, R, "unknown"))
+    frame = all_taken("rs", 0, (20,))
+    take(frame.check_section(0, delta_t=3), arrival=50)
+    close((3, 0), scratch=0)
+    close((R, 0, 0, 80))
+
+
 def at_random():
     note("sections at random")
     for _ in range(4):
         for line in random_burst(rng, 25, most=200):
             lines.append(line)
-            if line.split(" ")[0] in ("start", "take"):
+            if line.split(" ")[0] in CALLS:
                 due.append(None)
 
 
@@ -480,18 +665,19 @@ def at_random():
 FOLDER = sys.argv[1] if len(sys.argv) > 1 else ROOT
 lines, due = [], []
 rng = random.Random(191256)
-for cases in (starts, lawful, refused_alone, beyond_limit, differences, ends, put_marks, at_random):
+for cases in (starts, lawful, refused_alone, beyond_limit, differences, ends, put_marks,
+              fillings, tearings, other_marks, bare_closes, refused_closes, wakes, at_random):
     if lines:
         lines.append("")
     cases()
 # The last line ends with a carriage return too, which makes no difference.
 read = "\n".join(lines) + "\r\n"
 told = reference.answers(read)
-calls = [line for line in lines if line.split(" ")[0] in ("start", "take")]
+calls = [line for line in lines if line.split(" ")[0] in CALLS]
 assert len(calls) == len(due) == len(told.splitlines())
 for number, (line, said, answer) in enumerate(zip(calls, due, told.splitlines())):
     word, *rest = answer.split(" ")
-    found = (int(rest[0]), int(rest[2])) if word == "refused" else word
-    assert said in (None, found), (number, line[:100], said, answer)
+    found = (int(rest[0]), int(rest[2])) if word == "refused" else answer
+    assert said in (None, found) or answer.startswith(f"{said} "), (number, line[:100], said, answer)
 store("crates/bursttake/stdin", read)
 store("crates/bursttake/stdout", told)

@@ -2,9 +2,9 @@
 # The checks of the stored test files that need no package and take seconds:
 # the files are there, the reference listing gives the stored listing, the
 # section vectors and the sections to write are right, the stored rows are right by
-# the definition of their code, the stored bursts are made anew and answered by the
-# second program as is stored, each must-fail edit stands once in its source,
-# README shows the listing of the sample and what linkdemo prints, it and
+# the definition of their code, and mended by it, the stored bursts are made anew and
+# answered by the second program as is stored, each must-fail edit stands once in its
+# source, README shows the listing of the sample and what linkdemo prints, it and
 # docs/TESTING.md tell how much is stored. One line for each check; status 1 if one
 # fails.
 # The CRC is crcmod's where it is installed, else a bitwise function's.
@@ -85,6 +85,8 @@ result(len(asked) == len(mended), f"crates/rowmend, {len(mended)} lines in and o
 wrong = rows.contradictions(asked, mended)
 result(not wrong, "by the definition of the code the stored rows are right, torn ones as they were"
        + "".join(f"; line {number}: {what}" for number, what in wrong))
+result(rows.mended_lines(asked) == [answer for line, answer in zip(asked, mended) if rows.is_to_mend(line)],
+       "solving the equations that define the code gives each stored row that was mended")
 missing = collections.Counter(line.count("..") for line, answer in zip(asked, mended)
                               if line.startswith("rs mend") and answer[0] in rows.FILLED + rows.TORN)
 result(all(missing[count] > 1 for count in range(rows.CHECK_BYTES + 1)),
@@ -128,12 +130,13 @@ told = f"| {len(mended)} rows, and what `rowmend` must answer and leave of each 
 result(told in testing, "docs/TESTING.md tells what rows are stored: " + told)
 answers = lines("crates/bursttake/stdout")
 said = collections.Counter(answer.split(" ")[0] for answer in answers)
-told = f"| {said['started'] + said['taken'] + said['refused']} calls, and what `bursttake` must print of each ({said['started']} started, {said['taken']} taken, {said['refused']} refused)."
-calls = f"{len(answers)} calls of start and take"
+kinds = ", ".join(f"{said[kind]} {kind}" for kind in ("started", "taken", "closed", "refused"))
+told = f"| {len(answers):,} calls, and what `bursttake` must print of each ({kinds})."
+calls = f"{len(answers):,} calls of start, take and close"
 result(calls in on_one_line, "README tells how many stored: " + calls)
-result(told in testing and sum(said.values()) == len(answers), "docs/TESTING.md tells what calls are stored: " + told)
+result(told in testing and len(said) == 4, "docs/TESTING.md tells what calls are stored: " + told)
 refused = collections.Counter(answer.split(" ")[1] for answer in answers if answer.startswith("refused"))
-result(all(refused[str(number)] > 1 for number in (1, 2, *range(4, 14))), "each refusal of start and take is among them")
+result(all(refused[str(number)] > 1 for number in range(1, 14)), "each refusal of start, take and close is among them")
 sys.exit(bad)
 EOF
 [ $? = 0 ] || status=1

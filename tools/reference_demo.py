@@ -1,5 +1,6 @@
-"""What `linkdemo` must tell of its burst: the check bytes by libfec, the sections by
-the second writer, and what becomes of them by the second receiver. For the script
+"""What `linkdemo` must tell of its bursts: the check bytes by libfec, the sections by
+the second writer, and what becomes of them, and of a burst that is closed, by the
+second receiver. For the script
 that makes the stored files of rows; it stands on no line of the code."""
 import sys
 
@@ -39,8 +40,8 @@ class Demonstration:
         first = (take.COLUMNS + number) * ROWS
         return write.fec(self.sent[first:first + ROWS], p=padding_columns, s=number)
 
-    def send(self, what, section):
-        answer = self.receiver.answer(f"take 0 {section.hex()}").split(" ")[:-2]
+    def send(self, what, section, arrival=0):
+        answer = self.receiver.answer(f"take {arrival} {section.hex()}").split(" ")[:-2]
         if answer[0] == "refused":
             answer[-1] += ": " + TEXTS[int(answer[1])]
         self.lines.append(f"   {what:44} {' '.join(answer)}")
@@ -48,7 +49,36 @@ class Demonstration:
     def tell(self):
         marks = self.receiver.marks
         self.lines.append("   cells %d, known %d, of these received %d, starts %d" % (
-            len(marks), sum(map(take.is_known, marks)), sum(map(take.is_received, marks)), marks.count(take.START)))
+            len(marks), sum(map(take.is_known, marks)), sum(map(marks.count, (take.RECEIVED, take.START))), marks.count(take.START)))
+
+    def tell_right(self):
+        known = map(take.is_known, self.receiver.marks)
+        assert all(cell == byte for cell, byte, is_known in zip(self.receiver.cells, self.sent, known) if is_known)
+        self.lines.append("   Each known cell holds the byte that was sent.")
+
+    def told_of_close(self):
+        """A burst with a loss and a forgery, closed."""
+        self.lines += ["", "10. Another burst of the frame starts. The datagram at 200 is lost, and a forged one comes in:"]
+        self.receiver.answer("start rs 0")
+        self.send("datagram at 0", self.mpe(0, 200, False), 10000)
+        self.send("datagram at 266, which nobody sent", self.mpe(266, 20, False, datagram(20, ord("X"))), 10000)
+        self.send("datagram at 512, the last one", self.mpe(512, 88, True), 10000)
+        self.send("check column 0", self.fec(0, PADDING_COLUMNS), 10000)
+        self.tell()
+        burst, names, scratch = self.receiver.burst, bytearray(ROWS), bytearray(255)
+        assert not burst.close(self.receiver.cells, self.receiver.marks, scratch, names)
+        filled, torn, left_open = map(names.count, (1, 2, 3))
+        torn_rows, open_rows = ([r for r in range(ROWS) if names[r] == name] for name in (2, 3))
+        assert torn_rows == list(range(torn_rows[0], torn_rows[-1] + 1))
+        assert open_rows == list(range(open_rows[0], open_rows[-1] + 1))
+        moment = int(burst.wake())
+        self.lines += ["", "11. The burst is closed:", f"   rows filled {filled}, torn {torn}, open {left_open}",
+                       f"   Rows {torn_rows[0]} to {torn_rows[-1]} are torn: they fit no codeword."
+                       f" Rows {open_rows[0]} to {open_rows[-1]} are open: they fit many.",
+                       f"   The wake order is set on the alarm: at {moment} ms,"
+                       f" {moment - 10000} after the last section came in."]
+        self.tell()
+        self.tell_right()
 
     def told(self):
         end = sum(SIZES)
@@ -79,9 +109,9 @@ class Demonstration:
         self.lines += ["", "9. The datagram that is missing comes in at last:"]
         self.send("datagram at 200", self.mpe(200, 312, False))
         self.tell()
-        known = map(take.is_known, self.receiver.marks)
-        assert all(cell == byte for cell, byte, is_known in zip(self.receiver.cells, self.sent, known) if is_known)
-        return self.lines + ["   Each known cell holds the byte that was sent."]
+        self.tell_right()
+        self.told_of_close()
+        return self.lines
 
 
 def burst(libfec):

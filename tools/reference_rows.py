@@ -1,8 +1,8 @@
 #!/usr/bin/python3
 """Rows of the two row codes, for the scripts that hold `rowmend` against others:
 the lines of that program, the syndromes of a row of RS(255,191) by their
-definition, and what is to come of a row by libfec (through ctypes), which others
-wrote. A line is
+definition, rows mended by that alone, and what is to come of a row by libfec
+(through ctypes), which others wrote. A line is
 
   CODE mend ROW       CODE is `rs` or `bare`
   CODE spread ROW
@@ -78,6 +78,96 @@ def completions(row):
         return [row]
     place = row.index(None)
     return (row[:place] + [byte] + row[place + 1:] for byte in range(256))
+
+
+# ---- Rows mended by the definition: many at once, given by their columns ----
+
+TIMES = [bytes(times(a, byte) for byte in range(256)) for a in range(256)]
+INVERSE = [None] + [TIMES[a].index(1) for a in range(1, 256)]
+
+
+def added(a, b):
+    """The field sums of two byte strings."""
+    return (int.from_bytes(a, "big") ^ int.from_bytes(b, "big")).to_bytes(len(a), "big")
+
+
+def syndromes(columns):
+    """The 64 syndromes of each row, by Horner's rule; those of one kind together."""
+    sums = []
+    for power in _power[:CHECK_BYTES]:
+        total = bytes(len(columns[0]))
+        for column in columns:
+            total = added(total.translate(TIMES[power]), column)
+        sums.append(total)
+    return sums
+
+
+def solved(places, sums):
+    """Rows miss the bytes at these places, and have these syndromes with zeros there.
+    The equations that the missing bytes must meet are solved by Gauss's rule: (whether
+    some bytes can be any, the values of the others, and for each row whether, as a byte
+    that is not 0, an equation is left that no values meet)."""
+    lines = [bytes(_power[j * (254 - i) % 255] for i in places) + each for j, each in enumerate(sums)]
+    rank = 0
+    for k, _ in enumerate(places):
+        found = next((n for n in range(rank, len(lines)) if lines[n][k]), None)
+        if found is None:
+            continue
+        lines[rank], lines[found] = lines[found], lines[rank]
+        lines[rank] = lines[rank].translate(TIMES[INVERSE[lines[rank][k]]])
+        for n, line in enumerate(lines):
+            if n != rank and line[k]:
+                lines[n] = added(line, lines[rank].translate(TIMES[line[k]]))
+        rank += 1
+    values = [line[len(places):] for line in lines]
+    wrong = bytes(map(any, zip(*values[rank:]))) if values[rank:] else None
+    return rank < len(places), values[:rank], wrong
+
+
+def mended_all(code, columns, missing):
+    """(answers, columns afterwards) of rows given by their columns; missing has for each
+    row the places of the bytes that are not known. Rows that miss the same are solved
+    together: how many codewords agree with one depends on its equations alone."""
+    after, answers = [bytearray(column) for column in columns], [None] * len(missing)
+    zeroed = [bytearray(column) for column in columns]
+    same = {}
+    for r, places in enumerate(missing):
+        same.setdefault(tuple(places), []).append(r)
+        for i in places:
+            zeroed[i][r] = 0
+    sums = syndromes(zeroed) if code == "rs" else []
+    for places, rows in same.items():
+        several, values, wrong = solved(places, [bytes(each[r] for r in rows) for each in sums])
+        for n, r in enumerate(rows):
+            answers[r] = TORN if wrong and wrong[n] else OPEN if several else FILLED
+            if answers[r] == FILLED:
+                for i, value in zip(places, values):
+                    after[i][r] = value[n]
+    return answers, [bytes(column) for column in after]
+
+
+def is_to_mend(line):
+    """Whether a line asks to mend a row that is no misfit."""
+    code, call, text = line.split(" ")
+    return call == "mend" and len(row_of(text)) == WIDTHS[code]
+
+
+def mended_lines(lines):
+    """The answers to those lines that are to mend."""
+    found = {}
+    for code in WIDTHS:
+        asked = [line for line in lines if is_to_mend(line) and line.split(" ")[0] == code]
+        rows = [row_of(line.split(" ")[2]) for line in asked]
+        missing = [[i for i, byte in enumerate(row) if byte is None] for row in rows]
+        answers, columns = mended_all(code, [bytes(column) for column in zip(*map(stands, rows))], missing)
+        found.update((line, f"{answer} {word(row)}") for line, answer, row in zip(asked, answers, zip(*columns)))
+    return [found[line] for line in lines if line in found]
+
+
+def spread_all(columns):
+    """The 64 check columns behind 191 columns."""
+    missing = [range(GIVEN, ROW)] * len(columns[0])
+    return mended_all("rs", columns + [bytes(len(missing))] * CHECK_BYTES, missing)[1][GIVEN:]
 
 
 def contradiction(line, answer):

@@ -1,26 +1,32 @@
 #!/usr/bin/python3
-"""Make the calls start and take of a receiver that the lines of standard input ask
-for, and print what each answers, with the CRC_32 of the cells and of the marks
-afterwards. Written from the rules alone, plain and slow, to be held against another
-program. A line is
+"""Make the calls start, take and close of a receiver that the lines of standard input
+ask for, and print what each answers, with the CRC_32 of the cells and of the marks
+afterwards, and after a close of the scratch row and of the names. Written from the
+rules alone, plain and slow, to be held against another program. A line is
 
   buffers CELLS MARKS     buffers of so many bytes from now on, 0xAA and 0xC8 in them
   put MARK FROM COUNT     a byte into so many marks, from one on
   start CODE SIZE         CODE is `rs` or `bare`
   take ARRIVAL SECTION    the section in hex, `-` for no bytes
+  close SCRATCH NAMES     a scratch row and names of so many bytes, 0xC9 and 0xAA in them
 
 Lines that are empty or begin with # are passed over. A line is answered by `started`,
-`taken` or `refused NUMBER LAYER PLACE`, and then the two checksums."""
+`taken`, `closed FILLED TORN OPEN WAKE` or `refused NUMBER LAYER PLACE`, and then the
+checksums; WAKE is a moment, `end` or `unknown`. After a close that is not refused there
+is no burst until the next start."""
 import sys
 import zlib
 
 sys.dont_write_bytecode = True
 import reference_list as reference
+import reference_rows as row_code
 
 COLUMNS = 191                                # of the application table
 CHECK_COLUMNS = {"rs": 64, "bare": 0}
 ROWS = {0: 256, 1: 512, 2: 768, 3: 1024}     # by the size code
 CELL, MARK = 0xAA, 0xC8                      # what new buffers hold
+SCRATCH, NAME = 0xC9, 0xAA                   # what close is lent
+NAMES = {row_code.FILLED: 1, row_code.TORN: 2, row_code.OPEN: 3}
 UNKNOWN, RECEIVED, START, PADDING, FILLED = range(5)
 MIRRORED = bytes(int(f"{byte:08b}"[::-1], 2) for byte in range(256))
 
@@ -35,15 +41,11 @@ def is_known(mark):
     return mark in (RECEIVED, START, PADDING, FILLED)
 
 
-def is_received(mark):
-    return mark in (RECEIVED, START)
-
-
 class Section:
     """What a section says that refusals 4 to 11 let pass."""
 
     def __init__(self, section):
-        _, self.table_boundary, _, self.address = reference.timing(section)
+        self.delta_t, self.table_boundary, _, self.address = reference.timing(section)
         self.is_datagram = section[0] == 0x3E
         self.payload = section[12:-4]
         self.after = self.address + len(self.payload)
@@ -53,9 +55,10 @@ class Section:
 
 class Burst:
     def __init__(self, code, size_code):
-        self.check_columns, self.rows = CHECK_COLUMNS[code], ROWS[size_code]
+        self.code, self.check_columns, self.rows = code, CHECK_COLUMNS[code], ROWS[size_code]
         self.table = COLUMNS * self.rows     # cells of the application table
         self.end = self.padding_columns = None   # E and p, as far as told
+        self.latest = None                   # arrival and delta_t of the section taken last
 
     def fits(self, cells, marks):
         size = (COLUMNS + self.check_columns) * self.rows
@@ -104,11 +107,12 @@ class Burst:
                 return 13, section.address + k
         end = self.told_end(section)
         if end is not None:
-            if self.told_otherwise(section) or any(map(is_received, marks[end:self.table])):
+            behind = marks[end:self.table]
+            if self.told_otherwise(section) or RECEIVED in behind or START in behind:
                 return 13, end
         return None
 
-    def take(self, data, cells, marks):
+    def take(self, data, arrival, cells, marks):
         """Take a section; or (number, place) of its refusal, and nothing is done."""
         no = self.refusal(data, cells, marks)
         if no:
@@ -129,11 +133,42 @@ class Burst:
             self.end = section.end
         if section.padding_columns is not None:
             self.padding_columns = section.padding_columns
+        self.latest = arrival, section.delta_t
+        return None
+
+    def wake(self):
+        """When the radio is needed again, as it is printed."""
+        if self.latest is None:
+            return "unknown"
+        arrival, delta_t = self.latest
+        return str(arrival + 10 * delta_t) if delta_t else "end"
+
+    def close_row(self, r, name, word, cells, marks):
+        """What one row is now: filled with this word, torn, or open."""
+        for i, byte in zip(range(r, len(cells), self.rows), word):
+            if name == 2:
+                marks[i] = UNKNOWN
+            if name == 1 and not is_known(marks[i]):
+                cells[i], marks[i] = byte, FILLED
+
+    def close(self, cells, marks, scratch, names):
+        """Mend all rows; or (number, place) of the refusal, and nothing is done."""
+        if not self.fits(cells, marks):
+            return 2, 0
+        if len(scratch) != 255 or len(names) != self.rows:
+            return 3, 0
+        columns = [bytes(cells[i:i + self.rows]) for i in range(0, len(cells), self.rows)]
+        missing = [[i for i, mark in enumerate(marks[r::self.rows]) if not is_known(mark)] for r in range(self.rows)]
+        answers, columns = row_code.mended_all(self.code, columns, missing)
+        for r, (answer, word) in enumerate(zip(answers, zip(*columns))):
+            names[r] = NAMES[answer]
+            self.close_row(r, names[r], word, cells, marks)
+        scratch[:] = bytes(255)
         return None
 
 
 class Receiver:
-    """The buffers that are lent now, and the burst that was started last."""
+    """The buffers that are lent now, and the burst that is open."""
 
     def __init__(self):
         self.cells, self.marks, self.burst = bytearray(), bytearray(), None
@@ -148,12 +183,20 @@ class Receiver:
         self.burst = burst
         return None
 
-    def report(self, done, no):
+    def close(self, scratch, names):
+        """The line to print for a close."""
+        lent = bytearray([SCRATCH] * scratch), bytearray([NAME] * names)
+        no, wake = self.burst.close(self.cells, self.marks, *lent), self.burst.wake()
+        if not no:
+            self.burst = None
+        return self.report("closed %d %d %d %s" % (*map(lent[1].count, (1, 2, 3)), wake), no, *lent)
+
+    def report(self, done, no, *lent):
         if no:
             number, place = no
             layer = "call" if number < 4 else "table" if number > 11 else "section"
             done = f"refused {number} {layer} {place}"
-        return "%s %08X %08X" % (done, crc32_mirrored(self.cells), crc32_mirrored(self.marks))
+        return " ".join([done, *("%08X" % crc32_mirrored(buffer) for buffer in (self.cells, self.marks, *lent))])
 
     def answer(self, line):
         """The line to print for a line that was read; none for one that makes no call."""
@@ -172,11 +215,14 @@ class Receiver:
         if call == "start":
             code, size_code = words
             return self.report("started", self.start(code, int(size_code)))
+        assert self.burst, line
+        if call == "close":
+            return self.close(*map(int, words))
         assert call == "take", line
         arrival, section = words
-        assert int(arrival) < 1 << 32 and self.burst, line
+        assert int(arrival) < 1 << 32, line
         data = bytes.fromhex("" if section == "-" else section)
-        return self.report("taken", self.burst.take(data, self.cells, self.marks))
+        return self.report("taken", self.burst.take(data, int(arrival), self.cells, self.marks))
 
 
 def answers(text):

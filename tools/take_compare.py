@@ -1,9 +1,10 @@
 #!/usr/bin/python3
 """take_compare.py PROGRAM [SEED [BURSTS]]: make bursts at random, have PROGRAM
-(bursttake) take their sections, and hold each answer, and the checksums of cells and
-marks after it, against the second receiver. The seed is another one each time, and is
-printed: with it the same bursts come again. Without BURSTS there are 40, of 40 lines
-each. Ends with status 1 on a difference.
+(bursttake) take their sections and close them, and hold each answer, and the checksums
+of the buffers after it, against the second receiver. The seed is another one each time,
+and is printed: with it the same bursts come again. Without BURSTS there are 40, of 40
+lines each, and a third as many lawful ones that come with losses and are closed. Ends
+with status 1 on a difference.
 
 The scripts that make the stored bursts have datagrams and frames from here too."""
 import collections
@@ -14,10 +15,12 @@ import sys
 
 sys.dont_write_bytecode = True
 import reference_take as reference
+from reference_rows import spread_all
 from reference_take import CHECK_COLUMNS, COLUMNS, ROWS
 from reference_write import fec, mpe, sealed
 
 MOST = 4080                                  # bytes of a datagram
+CALLS = ("start", "take", "close")           # the lines that are answered
 
 
 def datagram(rng, size, version=None):
@@ -37,10 +40,10 @@ def sizes_for(rng, end, most=MOST):
 
 
 class Frame:
-    """A frame as a sender lays it out, but with any bytes as check columns: take knows
-    no codewords."""
+    """A frame as a sender lays it out; where it is not to be lawful, with any bytes as
+    check columns: take knows no codewords."""
 
-    def __init__(self, rng, code, size_code, sizes):
+    def __init__(self, rng, code, size_code, sizes, lawful=False):
         self.code, self.size_code, self.rng = code, size_code, rng
         self.rows, self.columns = ROWS[size_code], CHECK_COLUMNS[code]
         self.size = (COLUMNS + self.columns) * self.rows
@@ -51,6 +54,9 @@ class Frame:
         assert self.end <= COLUMNS * self.rows
         self.p = COLUMNS - -(-self.end // self.rows)
         self.check_columns = [rng.randbytes(self.rows) for _ in range(self.columns)]
+        if lawful and self.columns:
+            cells = b"".join(data for _, data in self.datagrams).ljust(COLUMNS * self.rows, b"\0")
+            self.check_columns = spread_all([cells[i:i + self.rows] for i in range(0, len(cells), self.rows)])
 
     def loose(self):
         """Fields that may have any value."""
@@ -125,6 +131,44 @@ def damaged(rng, section):
     return sealed(section[:-4]) if rng.randrange(3) else bytes(section)
 
 
+def refused_close(rng, frame):
+    """A close that is lent a scratch row or names of a wrong size, or both."""
+    wrong = rng.choice((0, 191, 254, 256)), frame.rows + rng.choice((-1, 1, 256, -256))
+    return "close %d %d" % rng.choice((wrong, (wrong[0], frame.rows), (255, wrong[1])))
+
+
+def random_put(rng, frame, first, most):
+    return (f"put {rng.choice((0, 1, 2, 3, 4, 5, rng.randrange(256)))} {first} "
+            f"{rng.randint(0, min(most, frame.size - first))}")
+
+
+def flip(rng, section):
+    """A section with one bit of its payload flipped, its heads aside; CRC_32 is right."""
+    section = bytearray(section[:-4])
+    section[rng.randrange(20, len(section))] ^= 1 << rng.randrange(8)
+    return sealed(section)
+
+
+def lossy_burst(rng):
+    """Lines of a lawful frame of which sections are lost, often about as many as check
+    columns come; of some that are forged; and of its close."""
+    code, size_code = rng.choice(("rs", "rs", "rs", "bare")), rng.choice((0, 0, 0, 0, 1))
+    end = rng.choice((rng.randint(20, 600), rng.randint(20, 8000), rng.randint(20, 70 * ROWS[size_code])))
+    frame = Frame(rng, code, size_code, sizes_for(rng, end, rng.choice((100, 1500, MOST))), lawful=True)
+    lost = rng.choice((0, 0.02, 0.1, 0.3))
+    enough = round(lost * end / frame.rows)
+    count = rng.choice((0, 64, enough, enough + 1, enough + 2))
+    sections = [frame.datagram_section(k) for k in range(len(frame.datagrams)) if rng.random() >= lost]
+    sections += [frame.check_section(s) for s in rng.sample(range(frame.columns), min(frame.columns, count))]
+    rng.shuffle(sections)
+    for k in rng.sample(range(len(sections)), min(len(sections), rng.choice((0, 0, 1, 2)))):
+        sections[k] = flip(rng, sections[k])
+    puts = [random_put(rng, frame, rng.randrange(frame.size), rng.choice((1, 60, 3 * frame.rows)))
+            for _ in range(rng.choice((0, 0, 0, 1, 5)))]
+    closes = [refused_close(rng, frame)] * rng.choice((0, 0, 1)) + [f"close 255 {frame.rows}"]
+    return [frame.buffers(), frame.start(), *(take_line(rng, section) for section in sections), *puts, *closes]
+
+
 def random_burst(rng, count, most=MOST):
     """So many lines, nearly all of them sections that a burst is to take."""
     code = rng.choice(("rs", "rs", "rs", "bare"))
@@ -141,9 +185,9 @@ def random_burst(rng, count, most=MOST):
         elif kind < 88:
             lines.append(take_line(rng, damaged(rng, lawful_section(rng, frame))))
         elif kind < 96:
-            first = rng.choice((frame.end, rng.randrange(frame.size))) % frame.size
-            lines.append(f"put {rng.choice((0, 1, 2, 3, 4, 5, rng.randrange(256)))} {first} "
-                         f"{rng.randint(0, min(60, frame.size - first))}")
+            lines.append(random_put(rng, frame, rng.choice((frame.end, rng.randrange(frame.size))) % frame.size, 60))
+        elif kind < 97:
+            lines += [refused_close(rng, frame), f"close 255 {frame.rows}", frame.start()]
         elif kind < 98:
             lines.append(f"start {rng.choice(('rs', 'bare', code))} {rng.choice((0, 1, size_code, rng.randrange(256)))}")
         else:
@@ -164,6 +208,7 @@ def main(program, seed=None, bursts=40):
     print(f"seed {seed}")
     rng = random.Random(seed)
     lines = [line for _ in range(int(bursts)) for line in random_burst(rng, 40)]
+    lines += [line for _ in range(int(bursts) // 3) for line in lossy_burst(rng)]
     ran = subprocess.run([program], input="".join(line + "\n" for line in lines), stdout=subprocess.PIPE, text=True)
     got, want = ran.stdout.splitlines(), reference.answers("\n".join(lines)).splitlines()
     different, counts = int(ran.returncode != 0), collections.Counter(map(outcome, want))
@@ -172,7 +217,7 @@ def main(program, seed=None, bursts=40):
     if len(got) != len(want):
         print(f"DIFFERENT: {len(want)} calls, {len(got)} answers")
         different += 1
-    calls = (number for number, line in enumerate(lines, 1) if line.split(" ")[0] in ("start", "take"))
+    calls = (number for number, line in enumerate(lines, 1) if line.split(" ")[0] in CALLS)
     for number, printed, due in zip(calls, got, want):
         if printed != due:
             different += 1

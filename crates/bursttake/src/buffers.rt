@@ -1,16 +1,20 @@
-//! The two buffers that are lent to each call.
+//! The buffers that are lent to calls.
 ghost use Rattle.std.specs.Prelude.{◌≡◌, ◌+◌, ◌≤◌, ◌↔◌, length, replicate, IfOk, IsOk, OnOk, OnErr};
 ghost use Rattle.receiver.specs.Parts.{PartIs};
 
 use std::alloc::{AllocError, Global};
 use thiserror::Error;
 
-// What the buffers hold when they are made. As a mark this says nothing.
+// What the buffers hold when they are made. As a mark, 0xC8 says nothing.
 const CELL: u8 = 0xAA;
 
 const MARK: u8 = 0xC8;
 
-/// Some of the marks that something was to be put into are not there.
+const SCRATCH: u8 = 0xC9;
+
+const NAME: u8 = 0xAA;
+
+/// A byte was to be put into more marks than there are.
 #[derive(Debug, Drop, Error)]
 #[error("there are not so many marks")]
 pub struct BeyondMarks;
@@ -32,6 +36,27 @@ impl Buffers {
         Ok(Buffers {
             cells: vec![in heap; CELL; cells as usize]?,
             marks: vec![in heap; MARK; marks as usize]?,
+        })
+    }
+}
+
+/// What close is lent besides: the scratch row, and the names of the rows.
+#[derive(Drop)]
+pub struct Work {
+    pub scratch: Vec<u8>,
+    pub names: Vec<u8>,
+}
+
+impl Work {
+    /// A scratch row and names of these lengths.
+    pub fn new(heap: Global, scratch: u32, names: u32) -> Result<Work, AllocError>
+        ensures scratch { IfOk result (λ work. work.scratch.items ≡ replicate scratch 0xC9) }
+        ensures names { IfOk result (λ work. work.names.items ≡ replicate names 0xAA) }
+    {
+        // `as`: there is no `From<u32>` for `usize`.
+        Ok(Work {
+            scratch: vec![in heap; SCRATCH; scratch as usize]?,
+            names: vec![in heap; NAME; names as usize]?,
         })
     }
 }

@@ -1,14 +1,13 @@
 //! A burst of one of the two row codes.
-ghost use Rattle.std.specs.Prelude.{◌≡◌, length, OnErr};
+ghost use Rattle.std.specs.Prelude.{◌≡◌, length, IfOk};
 ghost use Rattle.geometry.specs.Sizes.{four_sizes};
 ghost use Rattle.refusal.specs.Rules.{Answers};
-ghost use Rattle.frame.specs.Fields.{fields_of};
-ghost use Rattle.table.specs.Bursts.{table_of};
-ghost use Rattle.table.specs.Rules.{start_rules, take_rules};
-ghost use Rattle.table.specs.Taking.{Started, Took};
-ghost use Rattle.bursttake.specs.Codes.{check_columns, code_of, numbers_in};
+ghost use Rattle.table.specs.Calls.{StartAnswers, StartStays, TakeAnswers, TakeStays, CloseStays, GivesBack, reason};
+ghost use Rattle.table.specs.Closing.{close_rules, Closed, Tallied};
+ghost use Rattle.receiver.specs.Wakes.{wake_of};
+ghost use Rattle.bursttake.specs.Codes.{check_columns, codeword, code_of, numbers_in};
 
-use receiver::Burst;
+use receiver::{Burst, Tallies, WakeOrder};
 use reed_solomon::ReedSolomon;
 use refusal::Refusal;
 use rowcode::Bare;
@@ -35,10 +34,9 @@ impl OpenBurst {
         cells: &[u8],
         marks: &mut [u8],
     ) -> Result<OpenBurst, Refusal>
-        ensures answer { Answers
-            (start_rules four_sizes (check_columns code) «size_code» (length cells.now) (length marks.old))
-            (λ burst. (code_of burst ≡ code) × Started four_sizes «size_code» marks.old marks.new (numbers_in burst)) result }
-        ensures stays { OnErr result (marks.new ≡ marks.old) }
+        ensures answer { StartAnswers four_sizes (check_columns code) «size_code» cells.now marks.old marks.new numbers_in result }
+        ensures code { IfOk result (λ burst. code_of burst ≡ code) }
+        ensures stays { StartStays marks.old marks.new result }
     {
         match code {
             Code::ReedSolomon => Ok(OpenBurst::ReedSolomon(Burst::start(size_code, cells, marks)?)),
@@ -54,15 +52,45 @@ impl OpenBurst {
         cells: &mut [u8],
         marks: &mut [u8],
     ) -> Result<(), Refusal>
-        ensures answer { Answers
-            (take_rules (check_columns (code_of self.old)) (table_of (numbers_in self.old) cells.old marks.old) section.now (length cells.old) (length marks.old))
-            (λ _. Took (fields_of section.now) arrival (numbers_in self.old) cells.old marks.old (numbers_in self.new) cells.new marks.new) result }
+        ensures answer { TakeAnswers (check_columns (code_of self.old)) section.now arrival
+            (numbers_in self.old) cells.old marks.old (numbers_in self.new) cells.new marks.new result }
         ensures code { code_of self.new ≡ code_of self.old }
-        ensures stays { OnErr result ((self.new ≡ self.old) × (cells.new ≡ cells.old) × (marks.new ≡ marks.old)) }
+        ensures stays { TakeStays self.old self.new cells.old marks.old cells.new marks.new result }
     {
         match self {
             OpenBurst::ReedSolomon(burst) => burst.take(section, arrival, cells, marks),
             OpenBurst::Bare(burst) => burst.take(section, arrival, cells, marks),
+        }
+    }
+
+    /// Closes the burst: its wake order, and how many rows are filled, torn and open. Where that is refused, it comes back.
+    pub fn close(
+        self,
+        cells: &mut [u8],
+        marks: &mut [u8],
+        scratch: &mut [u8],
+        names: &mut [u8],
+    ) -> Result<(WakeOrder, Tallies), (Refusal, OpenBurst)>
+        ensures answer { Answers
+            (close_rules (check_columns (code_of self)) (numbers_in self).rows (length cells.old) (length marks.old) (length scratch.old) (length names.old))
+            (λ _. Closed (check_columns (code_of self)) (codeword (code_of self)) (numbers_in self).rows cells.old marks.old cells.new marks.new scratch.new names.new)
+            (reason result) }
+        ensures wake { IfOk result (λ closed. closed.0.wake ≡ wake_of (numbers_in self).latest) }
+        ensures tallies { IfOk result (λ closed. Tallied names.new closed.1) }
+        ensures stays { CloseStays cells.old marks.old scratch.old names.old cells.new marks.new scratch.new names.new result }
+        ensures back { GivesBack self result }
+    {
+        match self {
+            OpenBurst::ReedSolomon(burst) => {
+                match burst.close(&mut ReedSolomon, cells, marks, scratch, names) {
+                    Ok((_, order, tallies)) => Ok((order, tallies)),
+                    Err((refusal, burst)) => Err((refusal, OpenBurst::ReedSolomon(burst))),
+                }
+            }
+            OpenBurst::Bare(burst) => match burst.close(&mut Bare, cells, marks, scratch, names) {
+                Ok((_, order, tallies)) => Ok((order, tallies)),
+                Err((refusal, burst)) => Err((refusal, OpenBurst::Bare(burst))),
+            },
         }
     }
 }

@@ -19,6 +19,8 @@ pub enum Request {
     Start { code: Code, size_code: u8 },
     /// Have it take a section.
     Take { arrival: u32, section: Vec<u8> },
+    /// Close it, with a scratch row and names of these lengths.
+    Close { scratch: u32, names: u32 },
 }
 
 impl FromStr for Code {
@@ -61,6 +63,10 @@ pub(crate) fn requested(heap: Global, line: &str) -> anyhow::Result<Request> {
             arrival: arrival.parse()?,
             section: bytes_of(heap, section)?,
         }),
+        ["close", scratch, names] => Ok(Request::Close {
+            scratch: scratch.parse()?,
+            names: names.parse()?,
+        }),
         _ => Err(anyhow!("this asks for nothing")),
     }
 }
@@ -78,6 +84,7 @@ mod tests {
             "start bare 255",
             "take 4294967295 0AF9",
             "take 0 -",
+            "close 255 1024",
         ];
         for line in lines {
             assert!(rt; requested(rt.alloc(), line).is_ok(), "{}", line);
@@ -111,6 +118,11 @@ mod tests {
             "take 0 4a",
             "take 0 4",
             "take 0 4A 4A",
+            "close",
+            "close 255",
+            "close 255 256 0",
+            "close rs 256",
+            "close 255 4294967296",
         ];
         for line in lines {
             assert!(rt; requested(rt.alloc(), line).is_err(), "{}", line);

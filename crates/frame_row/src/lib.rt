@@ -8,6 +8,9 @@ ghost use Rattle.frame_row.specs.Rows.{PutBack};
 
 use geometry::Rows;
 
+/// How many bytes the scratch row has: as many as the widest row that there is.
+pub const SCRATCH_ROW: usize = 255;
+
 /// The scratch row, which a caller lends, while a row is worked in it. The guard holds its bytes alone, and all of them are 0
 /// again when it goes.
 // Its field is public: a method that lent the bytes out would have no generated proof.

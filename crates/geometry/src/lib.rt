@@ -1,10 +1,10 @@
 //! The geometry of a frame: its rows and columns, the addresses of its tables and their cells, and where its datagrams end.
 #![tactic(auto)]
 
-ghost use Rattle.std.specs.Prelude.{◌≡◌, ℕ, ◌+◌, ◌*◌, ◌<◌, ◌≤◌, ◌&&◌, Some, option_map, ◌↔◌, IfSome, IsTrue};
+ghost use Rattle.std.specs.Prelude.{◌≡◌, ℕ, ◌+◌, ◌*◌, ◌<◌, ◌≤◌, ◌&&◌, Some, option_map, ◌↔◌, IfSome, IsTrue, OnOk};
 ghost use Rattle.geometry.specs.Cells.{frame_size, table_size, cell, row_at, column_at, rs_cell};
 ghost use Rattle.geometry.specs.Ends.{padding_from, EndsIn, ends_in, padding_of, OnlyPadding, limit_of};
-ghost use Rattle.geometry.specs.Sizes.{AreSizes, four_sizes, buffer_rule, size_rule};
+ghost use Rattle.geometry.specs.Sizes.{AreSizes, four_sizes, buffer_rule, buffers_rule, size_rule};
 ghost use Rattle.refusal.specs.Rules.{Obeys};
 
 use refusal::{Refusal, refuse_when};
@@ -58,6 +58,17 @@ impl Rows {
         ensures { Obeys (buffer_rule C.check_columns self.count size) (λ _. Unit {0}) result }
     {
         refuse_when(size != self.frame_size::<C>(), Refusal::FrameBuffers)
+    }
+
+    /// Refuses, under 2, cells or marks that have not one byte for each cell of such a frame.
+    pub fn check_buffers<C: RowCode>(self, cells: usize, marks: usize) -> Result<(), Refusal>
+        ensures answer { Obeys (buffers_rule C.check_columns self.count cells marks) (λ _. Unit {0}) result }
+        ensures sizes { OnOk result
+            ((cells ≡ frame_size C.check_columns self.count) × (marks ≡ frame_size C.check_columns self.count)) }
+    {
+        self.check_buffer::<C>(cells)?;
+        self.check_buffer::<C>(marks)?;
+        Ok(())
     }
 
     /// The cell in a row of a column. A row of the frame and its column can be told from it.

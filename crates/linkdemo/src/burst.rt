@@ -14,11 +14,11 @@ use section_writer::{BUFFER, write};
 use std::alloc::Global;
 use std::io::Write;
 
-// The size code of the frame: 256 rows.
-const SIZE_CODE: u8 = 0;
+/// The size code of the frame: 256 rows.
+pub(crate) const SIZE_CODE: u8 = 0;
 
-// p of the frame: three columns have other than padding.
-const PADDING_COLUMNS: u8 = 188;
+/// p of the frame: three columns have other than padding.
+pub(crate) const PADDING_COLUMNS: u8 = 188;
 
 // How many cells are known, how many of them sections carried, and how many of these as the first byte of a datagram.
 fn tally(marks: &[u8]) -> (usize, usize, usize)
@@ -42,12 +42,48 @@ fn timing(address: u32, table_boundary: bool) -> RealTime {
     }
 }
 
-// A burst that takes sections, with its buffers.
+/// The buffers of a burst.
 #[derive(Drop)]
-struct Reception {
-    burst: Burst<ReedSolomon>,
-    cells: Vec<u8>,
-    marks: Vec<u8>,
+pub(crate) struct Buffers {
+    pub(crate) cells: Vec<u8>,
+    pub(crate) marks: Vec<u8>,
+}
+
+impl Buffers {
+    /// Tells how many cells are known, how many of these were received, and how many of these are starts. So many it must be.
+    pub(crate) fn tell(
+        &self,
+        out: &mut impl Write,
+        due: (usize, usize, usize),
+    ) -> anyhow::Result<()> {
+        let (known, received, starts) = tally(&self.marks);
+        ensure!((known, received, starts) == due, "other tallies of cells");
+        let cells = self.cells.len();
+        writeln!(
+            out,
+            "   cells {cells}, known {known}, of these received {received}, starts {starts}"
+        )?;
+        Ok(())
+    }
+
+    /// Tells that each known cell holds the byte that was sent. So it must be.
+    pub(crate) fn tell_right(&self, out: &mut impl Write, sent: &[u8]) -> anyhow::Result<()> {
+        let mut cells = self.cells.iter().zip(sent).zip(&self.marks);
+        ensure!(
+            cells.all(|((cell, sent), mark)| !Mark::from(*mark).is_known() || cell == sent),
+            "a known cell holds another byte than was sent"
+        );
+        writeln!(out, "   Each known cell holds the byte that was sent.")?;
+        Ok(())
+    }
+}
+
+/// A burst whose sections all come in at one moment, with its buffers.
+#[derive(Drop)]
+pub(crate) struct Reception {
+    pub(crate) burst: Burst<ReedSolomon>,
+    pub(crate) arrival: u32,
+    pub(crate) buffers: Buffers,
 }
 
 impl Reception {
@@ -59,9 +95,8 @@ impl Reception {
         section: &[u8],
         due: Result<(), Refusal>,
     ) -> anyhow::Result<()> {
-        let answer = self
-            .burst
-            .take(section, 0, &mut self.cells, &mut self.marks);
+        let Buffers { cells, marks } = &mut self.buffers;
+        let answer = self.burst.take(section, self.arrival, cells, marks);
         ensure!(answer == due, "{what}: another answer");
         match answer {
             Ok(()) => writeln!(out, "   {what:44} taken")?,
@@ -72,28 +107,14 @@ impl Reception {
         }
         Ok(())
     }
-
-    // Tells how many cells are known, how many of these were received, and how many of these are starts. So many it must be.
-    fn tell(&self, out: &mut impl Write, due: (usize, usize, usize)) -> anyhow::Result<()> {
-        let (known, received, starts) = tally(&self.marks);
-        ensure!((known, received, starts) == due, "another tally");
-        let cells = self.cells.len();
-        writeln!(
-            out,
-            "   cells {cells}, known {known}, of these received {received}, starts {starts}"
-        )?;
-        Ok(())
-    }
-
-    // Whether each known cell holds the byte that was sent.
-    fn agrees(&self, sent: &[u8]) -> bool {
-        let mut cells = self.cells.iter().zip(sent).zip(&self.marks);
-        cells.all(|((cell, sent), mark)| !Mark::from(*mark).is_known() || cell == sent)
-    }
 }
 
-// Makes the frame: its datagrams, its padding and its check columns.
-fn make_frame(out: &mut impl Write, alloc: Global, rows: Rows) -> anyhow::Result<Vec<u8>> {
+/// Makes the frame: its datagrams, its padding and its check columns.
+pub(crate) fn make_frame(
+    out: &mut impl Write,
+    alloc: Global,
+    rows: Rows,
+) -> anyhow::Result<Vec<u8>> {
     let count = rows.count();
     writeln!(
         out,
@@ -112,19 +133,16 @@ fn make_frame(out: &mut impl Write, alloc: Global, rows: Rows) -> anyhow::Result
     Ok(cells)
 }
 
-// Starts a burst, in buffers that hold anything.
-fn start(out: &mut impl Write, alloc: Global, size: usize) -> anyhow::Result<Reception> {
-    writeln!(out, "6. A burst starts with size code {SIZE_CODE}:")?;
+/// Starts a burst, in buffers that hold anything. Its sections will come in at that moment.
+pub(crate) fn start(alloc: Global, size: usize, arrival: u32) -> anyhow::Result<Reception> {
     let cells = vec![in alloc; 0xAAu8; size]?;
     let mut marks = vec![in alloc; Mark::Received.byte(); size]?;
     let burst = Burst::start(SIZE_CODE, &cells, &mut marks)?;
-    let reception = Reception {
+    Ok(Reception {
         burst,
-        cells,
-        marks,
-    };
-    reception.tell(out, (0, 0, 0))?;
-    Ok(reception)
+        arrival,
+        buffers: Buffers { cells, marks },
+    })
 }
 
 // The bytes of a part of the cells.
@@ -137,8 +155,8 @@ fn part(cells: &[u8], first: usize, count: u16) -> anyhow::Result<&[u8]>
     Ok(&cells[first..end])
 }
 
-// The section of one datagram.
-fn datagram(address: u16, table_boundary: bool, payload: &[u8]) -> Section<'_> {
+/// The section of one datagram.
+pub(crate) fn datagram(address: u16, table_boundary: bool, payload: &[u8]) -> Section<'_> {
     Section {
         header: Header::Datagram(DatagramHeader {
             mac_address_6: 0,
@@ -150,14 +168,23 @@ fn datagram(address: u16, table_boundary: bool, payload: &[u8]) -> Section<'_> {
     }
 }
 
-// That of one of the frame's datagrams.
-fn of_frame(sent: &[u8], placed: Placed, table_boundary: bool) -> anyhow::Result<Section<'_>> {
+/// That of one of the frame's datagrams.
+pub(crate) fn of_frame(
+    sent: &[u8],
+    placed: Placed,
+    table_boundary: bool,
+) -> anyhow::Result<Section<'_>> {
     let payload = part(sent, usize::from(placed.address), placed.length)?;
     Ok(datagram(placed.address, table_boundary, payload))
 }
 
-// The section of one of the frame's check columns, which may tell another p.
-fn column(rows: Rows, sent: &[u8], number: u8, padding_columns: u8) -> anyhow::Result<Section<'_>> {
+/// The section of one of the frame's check columns, which may tell another p.
+pub(crate) fn column(
+    rows: Rows,
+    sent: &[u8],
+    number: u8,
+    padding_columns: u8,
+) -> anyhow::Result<Section<'_>> {
     // `as`: there are 1,024 rows at most, and `From` narrows nothing.
     let count = rows.count() as u16;
     let address = u32::from(number) * u32::from(count);
@@ -173,8 +200,8 @@ fn column(rows: Rows, sent: &[u8], number: u8, padding_columns: u8) -> anyhow::R
 }
 
 impl Reception {
-    // Writes a section, and hands it in.
-    fn send(
+    /// Writes a section, and hands it in.
+    pub(crate) fn send(
         &mut self,
         out: &mut impl Write,
         what: &str,
@@ -197,7 +224,7 @@ impl Reception {
         self.send(out, "check column 0", check, Ok(()))?;
         let first = of_frame(sent, first, false)?;
         self.send(out, "datagram at 0", first, Ok(()))?;
-        self.tell(out, (48_840, 544, 2))
+        self.buffers.tell(out, (48_840, 544, 2))
     }
 
     // Sections of datagrams that are not taken.
@@ -242,7 +269,7 @@ impl Reception {
         let due = Err(Refusal::Contradiction { place: 1024 });
         let what = "check column 1, with one padding column less";
         self.send(out, what, check, due)?;
-        self.tell(out, (48_840, 544, 2))
+        self.buffers.tell(out, (48_840, 544, 2))
     }
 
     // The datagram that was missing.
@@ -251,26 +278,25 @@ impl Reception {
         let [_, second, _] = DATAGRAMS;
         let second = of_frame(sent, second, false)?;
         self.send(out, "datagram at 200", second, Ok(()))?;
-        self.tell(out, (49_152, 856, 3))?;
-        ensure!(
-            self.agrees(sent),
-            "a known cell holds another byte than was sent"
-        );
-        writeln!(out, "   Each known cell holds the byte that was sent.")?;
-        Ok(())
+        self.buffers.tell(out, (49_152, 856, 3))?;
+        self.buffers.tell_right(out, sent)
     }
 }
 
-/// Shows what take does, step by step. It is an error if a step does not come out as it is told.
-pub(crate) fn show(out: &mut impl Write, alloc: Global) -> anyhow::Result<()> {
-    let rows = Rows::of_size_code(SIZE_CODE)?;
-    let sent = make_frame(out, alloc, rows)?;
+/// Shows what start and take do, step by step. It is an error if a step does not come out as it is told.
+pub(crate) fn show(
+    out: &mut impl Write,
+    alloc: Global,
+    rows: Rows,
+    sent: &[u8],
+) -> anyhow::Result<()> {
+    writeln!(out, "6. A burst starts with size code {SIZE_CODE}:")?;
+    let mut reception = start(alloc, sent.len(), 0)?;
+    reception.buffers.tell(out, (0, 0, 0))?;
     writeln!(out)?;
-    let mut reception = start(out, alloc, sent.len())?;
+    reception.receive_own(out, rows, sent)?;
     writeln!(out)?;
-    reception.receive_own(out, rows, &sent)?;
+    reception.receive_others(out, rows, sent)?;
     writeln!(out)?;
-    reception.receive_others(out, rows, &sent)?;
-    writeln!(out)?;
-    reception.receive_rest(out, &sent)
+    reception.receive_rest(out, sent)
 }

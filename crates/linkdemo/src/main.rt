@@ -1,11 +1,13 @@
 //! The layers at work, step by step, with no input. What a step tells has come out in this very run; else the program ends
-//! with an error. So far: a row of a frame, and a burst that takes sections.
+//! with an error. So far: a row of a frame, a burst that takes sections, and one that is closed.
 #![tactic(auto)]
 
 mod burst;
-mod row;
+mod close;
 mod sent;
 
+use burst::{SIZE_CODE, make_frame};
+use geometry::Rows;
 use program::asked_to_run;
 use reed_solomon::ReedSolomon;
 use std::alloc::Global;
@@ -13,14 +15,19 @@ use std::io::{BufWriter, Write};
 
 const USAGE: &str = "usage: linkdemo
 Shows the layers at work, step by step, with no input: a row of a frame is spread, loses bytes and is mended; a burst takes
-the sections of a frame, and turns others away.
+the sections of a frame, and turns others away; a burst with a loss and a forgery is closed.
 A step that does not come out as it is told ends the program with an error.";
 
-// A row, and then a burst.
+// A row, and then the bursts of a frame.
 fn show(out: &mut impl Write, alloc: Global) -> anyhow::Result<()> {
-    row::show(out, &mut ReedSolomon)?;
+    rowdemo::show(out, &mut ReedSolomon)?;
     writeln!(out)?;
-    burst::show(out, alloc)
+    let rows = Rows::of_size_code(SIZE_CODE)?;
+    let sent = make_frame(out, alloc, rows)?;
+    writeln!(out)?;
+    burst::show(out, alloc, rows, &sent)?;
+    writeln!(out)?;
+    close::show(out, alloc, rows, &sent)
 }
 
 fn main(rt: HostRuntime) -> anyhow::Result<()> {

@@ -1,16 +1,23 @@
 -- What a burst holds, as contracts see it.
-use Rattle.std.specs.Prelude.{option_map}
+use Rattle.std.specs.Prelude.{Option, option_map}
 use Rattle.receiver.specs.declared.numbers.Latest.{Latest}
+use Rattle.receiver.specs.declared.numbers.ClosedNumbers.{ClosedNumbers}
 use Rattle.receiver.specs.declared.numbers.Numbers.{Numbers}
-use Rattle.table.specs.Bursts.{Latest as LatestSeen, Numbers as NumbersSeen}
+use Rattle.table.specs.Bursts.{Latest as LatestSeen, Numbers as NumbersSeen, ClosedNumbers as ClosedNumbersSeen}
 
 abbrev pub latest_of : Latest → LatestSeen
 latest_of l = record { arrival = l.arrival; delta_t = l.delta_t }
+
+abbrev pub seen_latest : Option Latest → Option LatestSeen
+seen_latest latest = option_map latest_of latest
 
 abbrev pub numbers_of : Numbers → NumbersSeen
 numbers_of n = record {
   rows = n.rows.count;
   end = n.told.end;
   padding = n.told.padding_columns;
-  latest = option_map latest_of n.latest;
+  latest = seen_latest n.latest;
 }
+
+abbrev pub closed_numbers_of : ClosedNumbers → ClosedNumbersSeen
+closed_numbers_of n = record { rows = n.rows.count; limit = n.limit }

@@ -1,16 +1,22 @@
-//! An open burst: started for a frame size, and taking sections.
-ghost use Rattle.std.specs.Prelude.{◌≡◌, length, IfOk, OnOk, OnErr};
-ghost use Rattle.geometry.specs.Sizes.{four_sizes, buffers_rule};
-ghost use Rattle.refusal.specs.Rules.{Answers, Obeys};
+//! An open burst: started for a frame size, taking sections, and closed.
+ghost use Rattle.std.specs.Prelude.{◌≡◌, IfOk, OnOk, OnErr};
+ghost use Rattle.geometry.specs.Sizes.{four_sizes};
 ghost use Rattle.frame.specs.Fields.{fields_of};
 ghost use Rattle.table.specs.Bursts.{table_of};
+ghost use Rattle.table.specs.Calls.{StartAnswers, StartStays, TakeAnswers, TakeStays, CloseAnswers, CloseStays, GivesBack, reason};
+ghost use Rattle.table.specs.Closing.{Tallied};
 ghost use Rattle.table.specs.Laws.{TakesItsOwn, KeepsAgreeing, AgreesWithAll};
-ghost use Rattle.table.specs.Rules.{start_rules, take_rules};
-ghost use Rattle.table.specs.Taking.{Started, Took, Stored, Entered};
-ghost use Rattle.receiver.specs.Views.{numbers_of};
+ghost use Rattle.table.specs.Taking.{Stored, Entered};
+ghost use Rattle.ledger.specs.Law.{KeepsTheLedger};
+ghost use Rattle.ledger.specs.Steps.{StartSteps, TakeSteps, CloseSteps};
+ghost use Rattle.receiver.specs.Views.{numbers_of, closed_numbers_of};
+ghost use Rattle.receiver.specs.Wakes.{wake_of};
 
+use crate::closed::ClosedBurst;
 use crate::numbers::Numbers;
 use crate::telling::Told;
+use crate::wake::{Wake, WakeOrder};
+use closing::{Tallies, close_rows};
 use geometry::Rows;
 use marks::Mark;
 use refusal::Refusal;
@@ -25,26 +31,18 @@ pub struct Burst<C: RowCode> {
     code: PhantomData<C>,
 }
 
-// Refuses, under 2, cells or marks that have not one byte for each cell of the frame.
-fn check_buffers<C: RowCode>(rows: Rows, cells: usize, marks: usize) -> Result<(), Refusal>
-    ensures { Obeys (buffers_rule C.check_columns rows.count cells marks) (λ _. Unit {0}) result }
-{
-    rows.check_buffer::<C>(cells)?;
-    rows.check_buffer::<C>(marks)?;
-    Ok(())
-}
-
 impl<C: RowCode> Burst<C> {
     /// Starts a burst for a size code: every mark becomes 0, and no cell is touched. Refused under 1 and 2, with all as it was.
     pub fn start(size_code: u8, cells: &[u8], marks: &mut [u8]) -> Result<Burst<C>, Refusal>
-        ensures answer { Answers
-            (start_rules four_sizes C.check_columns «size_code» (length cells.now) (length marks.old))
-            (λ burst. Started four_sizes «size_code» marks.old marks.new (numbers_of burst.numbers)) result }
-        ensures stays { OnErr result (marks.new ≡ marks.old) }
+        ensures answer { StartAnswers four_sizes C.check_columns «size_code» cells.now marks.old marks.new
+            (λ burst. numbers_of burst.numbers) result }
+        ensures stays { StartStays marks.old marks.new result }
+        ensures steps { StartSteps C.check_columns C.codeword four_sizes «size_code» cells.now marks.old marks.new
+            (λ burst. numbers_of burst.numbers) result }
         ensures agrees { IfOk result (λ burst. AgreesWithAll (table_of (numbers_of burst.numbers) cells.now marks.new)) }
     {
         let rows = Rows::of_size_code(size_code)?;
-        check_buffers::<C>(rows, cells.len(), marks.len())?;
+        rows.check_buffers::<C>(cells.len(), marks.len())?;
         marks.fill(Mark::Unknown.byte());
         Ok(Burst {
             numbers: Numbers {
@@ -65,13 +63,11 @@ impl<C: RowCode> Burst<C> {
         cells: &mut [u8],
         marks: &mut [u8],
     ) -> Result<(), Refusal>
-        ensures answer { Answers
-            (take_rules C.check_columns (table_of (numbers_of self.old.numbers) cells.old marks.old)
-            section.now (length cells.old) (length marks.old))
-            (λ _. Took (fields_of section.now) arrival (numbers_of self.old.numbers) cells.old marks.old
-            (numbers_of self.new.numbers) cells.new marks.new) result }
-        ensures stays { OnErr result
-            ((self.new ≡ self.old) × (cells.new ≡ cells.old) × (marks.new ≡ marks.old)) }
+        ensures answer { TakeAnswers C.check_columns section.now arrival
+            (numbers_of self.old.numbers) cells.old marks.old (numbers_of self.new.numbers) cells.new marks.new result }
+        ensures stays { TakeStays self.old self.new cells.old marks.old cells.new marks.new result }
+        ensures steps { TakeSteps C.check_columns C.codeword section.now arrival
+            (numbers_of self.old.numbers) cells.old marks.old (numbers_of self.new.numbers) cells.new marks.new result }
         ensures payload { OnOk result
             (Stored self.old.numbers.rows.count (fields_of section.now) cells.new marks.new) }
         ensures entered { OnOk result
@@ -84,8 +80,46 @@ impl<C: RowCode> Burst<C> {
             (table_of (numbers_of self.old.numbers) cells.old marks.old) section.now
             (table_of (numbers_of self.new.numbers) cells.new marks.new) result }
     {
-        check_buffers::<C>(self.numbers.rows, cells.len(), marks.len())?;
+        self.numbers
+            .rows
+            .check_buffers::<C>(cells.len(), marks.len())?;
         self.numbers
             .take(C::check_columns(), section, arrival, cells, marks)
+    }
+
+    /// Ends the burst: mends every row by this row code, in the scratch row of 255 bytes, and gives it a name, one byte a row:
+    /// 1 if it is filled, 2 torn, 3 open. Gives the closed burst, the wake order, and how many rows are filled, torn and open.
+    /// Refused under 2 and 3, by the first that fits: then the burst comes back, with all as it was.
+    pub fn close(
+        self,
+        code: &mut C,
+        cells: &mut [u8],
+        marks: &mut [u8],
+        scratch: &mut [u8],
+        names: &mut [u8],
+    ) -> Result<(ClosedBurst<C>, WakeOrder, Tallies), (Refusal, Burst<C>)>
+        ensures answer { CloseAnswers C.check_columns C.codeword (numbers_of self.numbers) cells.old marks.old scratch.old names.old
+            cells.new marks.new scratch.new names.new (λ closed. closed_numbers_of closed.0.numbers) (reason result) }
+        ensures wake { IfOk result (λ closed. closed.1.wake ≡ wake_of (numbers_of self.numbers).latest) }
+        ensures tallies { IfOk result (λ closed. Tallied names.new closed.2) }
+        ensures stays { CloseStays cells.old marks.old scratch.old names.old cells.new marks.new scratch.new names.new result }
+        ensures back { GivesBack self result }
+        ensures steps { CloseSteps C.check_columns C.codeword (numbers_of self.numbers) cells.old marks.old scratch.old names.old
+            cells.new marks.new names.new (λ closed. closed_numbers_of closed.0.numbers) (λ back. numbers_of back.numbers) result }
+        ensures code { OnErr result (code.new ≡ code.old) }
+        // What holds after any list of calls of start, take and close.
+        ensures law { KeepsTheLedger C.check_columns C.codeword }
+    {
+        match close_rows(self.numbers.rows, code, cells, marks, scratch, names) {
+            Ok(tallies) => Ok((
+                ClosedBurst {
+                    numbers: self.numbers.closed(),
+                    code: PhantomData,
+                },
+                WakeOrder::new(Wake::after(self.numbers.latest)),
+                tallies,
+            )),
+            Err(refusal) => Err((refusal, self)),
+        }
     }
 }

@@ -1,8 +1,8 @@
 //! When a table turns a section away that passed the rules of reading: 12 and 13.
-ghost use Rattle.std.specs.Prelude.{◌≡◌, ℕ, List, ◌+◌, ◌-◌, ◌<◌, ◌≤◌, ◌&&◌, ◌||◌, not, [], ◌∷◌, length, take, drop, IfSome, OnOk, ◌==◌};
+ghost use Rattle.std.specs.Prelude.{◌≡◌, List, ◌+◌, ◌-◌, ◌<◌, ◌≤◌, ◌&&◌, ◌||◌, not, [], length, IfSome, OnOk};
 ghost use Rattle.std.specs.List.{list_any, range_with_len};
 ghost use Rattle.geometry.specs.Cells.{table_size};
-ghost use Rattle.geometry.specs.Ends.{limit_of, padding_from};
+ghost use Rattle.geometry.specs.Ends.{limit_of};
 ghost use Rattle.marks.specs.Marks.{is_received, mark_of};
 ghost use Rattle.refusal.specs.Rules.{Obeys, first};
 ghost use Rattle.frame.specs.Fields.{fields};
@@ -51,7 +51,7 @@ fn first_unlike(payload: &[u8], cells: &[u8], marks: &[u8]) -> Option<usize>
 
 impl Numbers {
     // As far as datagrams are known to reach.
-    fn limit(self) -> usize
+    pub(crate) fn limit(self) -> usize
         ensures value { result ≡ limit_of self.rows.count self.told.end self.told.«padding_columns» }
         ensures inside { result ≤ table_size self.rows.count }
     {

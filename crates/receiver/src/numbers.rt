@@ -1,4 +1,4 @@
-//! The numbers that an open burst holds.
+//! The numbers that a burst holds, open or closed.
 ghost use Rattle.std.specs.Prelude.{◌≤◌};
 ghost use Rattle.std.specs.Option.{ForSome};
 ghost use Rattle.geometry.specs.Cells.{table_size};
@@ -22,4 +22,13 @@ pub(crate) struct Numbers {
     /// Of the section taken last.
     pub(crate) latest: Option<Latest>,
     ghost end_inside: { ForSome told.end (λ end. end ≤ table_size rows.count) },
+}
+
+/// What a closed burst holds: numbers alone.
+#[derive(Clone, Copy)]
+pub(crate) struct ClosedNumbers {
+    pub(crate) rows: Rows,
+    /// As far as datagrams are known to reach.
+    pub(crate) limit: usize,
+    ghost limit_inside: { limit ≤ table_size rows.count },
 }

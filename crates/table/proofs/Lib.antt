@@ -5,3 +5,5 @@ pub mod Entering
 pub mod Own
 pub mod Taken
 pub mod Started
+pub mod Order
+pub mod Takes

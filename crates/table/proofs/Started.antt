@@ -7,7 +7,7 @@ use Rattle.frame.specs.Frames.{Frame}
 use Rattle.table.specs.Bursts.{started, table_of}
 use Rattle.table.specs.Laws.{Agrees}
 
-unmarked : (n i : ℕ) → byte (replicate n 0) i ≡ 0
+pub unmarked : (n i : ℕ) → byte (replicate n 0) i ≡ 0
 unmarked zero i = refl
 unmarked (suc n) zero = refl
 unmarked (suc n) (suc i) = unmarked n i

@@ -1,7 +1,8 @@
--- An open burst: the numbers that it holds, and the table that they make with its two buffers.
+-- A burst, open or closed: the numbers that it holds, and the table that those of an open one make with its two buffers.
 use Rattle.std.specs.Prelude.{ℕ, Bool, cond, List, Option, Some, None}
 use Rattle.octets.specs.Octets.{byte}
 use Rattle.marks.specs.Marks.{mark_of, is_known, is_received, is_start}
+use Rattle.geometry.specs.Ends.{limit_of}
 use Rattle.table.specs.Tables.{Table}
 
 -- when the section taken last came in, in ms, and its delta_t
@@ -41,3 +42,11 @@ table_of b cells marks = record {
   end = b.end;
   padding = b.padding;
 }
+
+-- those of a closed burst: R, and the limit of its table
+pub record ClosedNumbers : Type 0 where
+  pub rows : ℕ
+  pub limit : ℕ
+
+abbrev pub closed_numbers : Numbers → ClosedNumbers
+closed_numbers b = record { rows = b.rows; limit = limit_of b.rows b.end b.padding }

@@ -3,4 +3,7 @@ pub mod Telling
 pub mod Rules
 pub mod Bursts
 pub mod Taking
+pub mod Rows
+pub mod Closing
+pub mod Calls
 pub mod Laws

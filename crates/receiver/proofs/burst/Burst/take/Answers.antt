@@ -1,13 +1,14 @@
-use Rattle.std.proofs.Common.{length}
+use Rattle.std.proofs.Common.{length, rules}
 use Rattle.frame.specs.Fields.{fields_of}
 use Rattle.table.specs.Bursts.{table_of}
 use Rattle.receiver.specs.Views.{numbers_of}
-use Rattle.receiver.proofs.Order.{answers_behind}
-use Rattle.receiver.proofs.Own.{takes_own, takes_stored, takes_entered, takes_keeping}
+use Rattle.ledger.proofs.Steps.{take_steps}
+use Rattle.table.proofs.Order.{answers_behind}
+use Rattle.table.proofs.Takes.{takes_own, takes_stored, takes_entered, takes_keeping}
 use Rattle.receiver.proofs.burst.Burst.take.Goals as goal
 
 pub returns-clause-answer : goal.returns-clause-answer
-returns-clause-answer g c = answers_behind _ _ _ c.take.result c.in_ok-check_buffers.ensures.0 (rw c.check_columns.ensures at c.take.ensures.answer)
+returns-clause-answer g c = answers_behind _ _ _ c.take.result c.in_ok-check_buffers.ensures.answer.0 (rw c.check_columns.ensures at c.take.ensures.answer)
 
 pub returns-clause-payload : goal.returns-clause-payload
 returns-clause-payload g c =
@@ -28,3 +29,13 @@ pub returns-clause-keeps : goal.returns-clause-keeps
 returns-clause-keeps g c =
     takes_keeping g.C.RowCode.check_columns g.C.RowCode.codeword (table_of (numbers_of c.args.self.now.numbers) c.args.cells.now c.args.marks.now) c.args.section.now
     (table_of (numbers_of c.take.new.self) c.take.new.cells c.take.new.marks) c.take.result g.met.C.RowCode.few (returns-clause-entered g c)
+
+pub returns-in_err-check_buffers-clause-steps : goal.returns-in_err-check_buffers-clause-steps
+returns-in_err-check_buffers-clause-steps g c =
+    take_steps g.C.RowCode.check_columns g.C.RowCode.codeword c.args.section.now c.args.arrival (λ n. n) (numbers_of c.args.self.now.numbers) _ c.args.cells.now c.args.marks.now _ _ _
+    (search rules) (search rules)
+
+pub returns-clause-steps : goal.returns-clause-steps
+returns-clause-steps g c =
+    take_steps g.C.RowCode.check_columns g.C.RowCode.codeword c.args.section.now c.args.arrival numbers_of c.args.self.now.numbers c.take.new.self
+    c.args.cells.now c.args.marks.now c.take.new.cells c.take.new.marks c.take.result (returns-clause-answer g c) c.take.ensures.stays

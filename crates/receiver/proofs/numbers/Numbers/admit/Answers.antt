@@ -6,7 +6,7 @@ use Rattle.frame.specs.Fields.{Fields, fields_of}
 use Rattle.table.specs.Bursts.{table_of}
 use Rattle.table.specs.Rules.{table_rules}
 use Rattle.receiver.specs.Views.{numbers_of}
-use Rattle.receiver.proofs.Order.{refused_before, refused_after, passes_both}
+use Rattle.table.proofs.Order.{refused_before, refused_after, passes_both}
 use Rattle.receiver.proofs.numbers.Numbers.admit.Goals as goal
 
 pub returns-in_err-section : goal.returns-in_err-section

@@ -1,0 +1,4 @@
+pub mod AgreeingWords
+pub mod AllRows
+pub mod ClosedRows
+pub mod MendedRows

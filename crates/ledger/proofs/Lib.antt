@@ -1,0 +1,11 @@
+pub mod Tables
+pub mod Inverted
+pub mod Rows
+pub mod Linked
+pub mod Latest
+pub mod Keeping
+pub mod Taking
+pub mod WholeRow
+pub mod WitnessSections
+pub mod WitnessRun
+pub mod Steps
