@@ -1,0 +1,4 @@
+pub mod Decisions
+pub mod Reading
+pub mod Laws
+pub mod Stops
