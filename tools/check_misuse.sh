@@ -1,6 +1,7 @@
 #!/usr/bin/env bash
-# What must not compile: a section handed to a closed burst, and a wake order that is forgotten. On a copy of the crates a
-# small program does each, and the compiler must refuse it by the error named here; the same program without that must compile.
+# What must not compile: a section handed to a closed burst, a wake order that is forgotten, and cells changed while a read-out
+# lives. On a copy of the crates a small program does each, and the compiler must refuse it by the error named here; the same
+# program without that must compile.
 set -euo pipefail
 cd "$(dirname "${BASH_SOURCE[0]}")/.."
 copy=$(mktemp -d)
@@ -68,3 +69,7 @@ is_refused "a section handed to a burst that was closed" borrow-e0382 \
 is_refused "a wake order that is forgotten" linear-value-let-go ""
 is_refused "a wake order that is made by hand" private-field \
     "$set_on WakeOrder { wake: Wake::Unknown }.set_on(&mut alarm);"
+compiles "cells changed after a read-out" \
+    "$set_on if let Ok(mut read_out) = closed.open(&cells, &marks) { let _ = read_out.next(); cells[0] = 1; }"
+is_refused "cells changed while a read-out lives" borrow-e0506 \
+    "$set_on if let Ok(mut read_out) = closed.open(&cells, &marks) { cells[0] = 1; let _ = read_out.next(); }"

@@ -9,8 +9,8 @@ use Rattle.table.specs.Tables.{Table, blank}
 use Rattle.table.specs.Rules.{start_rules, take_rules}
 use Rattle.table.specs.Taking.{Entered}
 use Rattle.table.specs.Closing.{close_rules}
-use Rattle.ledger.specs.Calls.{Call, start, take, close}
-use Rattle.ledger.specs.Ledgers.{Ledger, anew, kept_at_start, enters, kept_at_take, settled, kept_at_close, Settled}
+use Rattle.ledger.specs.Calls.{Call, start, take, close, «open», next}
+use Rattle.ledger.specs.Ledgers.{Ledger, anew, kept_at_start, enters, kept_at_take, settled, kept_at_close, kept_at_open, kept_at_next, Settled}
 
 module _ (m : ℕ) (codeword : List ℕ → Type 0) (sizes : ℕ → Option ℕ) where
   -- the ledger of these calls is this table, if there is one
@@ -56,3 +56,9 @@ module _ (m : ℕ) (codeword : List ℕ → Type 0) (sizes : ℕ → Option ℕ)
   after_refused_close _ _ _ _ _ _ own e (settled calls t after cells marks scratch names before passes _) is refused =
       absurd ((settles _).not_both e refused (subst (λ (u : Table). Passes (close_rules m u.rows cells marks scratch names)) (is t before) passes))
   after_refused_close _ _ _ _ _ _ own e (kept_at_close calls t cells marks scratch names _ before _) is refused = before
+
+  pub after_open : (calls : List Call) (cells marks : ℕ) (t : Table) → Ledger m codeword sizes («open» cells marks ∷ calls) t → Ledger m codeword sizes calls t
+  after_open _ _ _ _ (kept_at_open calls t cells marks before) = before
+
+  pub after_next : (calls : List Call) (read_out : ℕ) (t : Table) → Ledger m codeword sizes (next read_out ∷ calls) t → Ledger m codeword sizes calls t
+  after_next _ _ _ (kept_at_next calls t read_out before) = before

@@ -1,17 +1,20 @@
 -- The rows at a close: what the buffers hold of each is what the ledger makes of it, and its name says what the ledger had there.
-use Rattle.std.proofs.Common.{◌≡◌, ℕ, zero, suc, ◌*◌, ◌/◌, ◌%◌, ◌<◌, ◌↔◌, ◌==◌, cond, List, Option, Some, None, refl, sym, ap, ◌∙◌, subst, arith}
+use Rattle.std.proofs.Common.{◌≡◌, ℕ, zero, suc, ◌*◌, ◌/◌, ◌%◌, ◌<◌, ◌↔◌, ◌==◌, false, cond, List, Option, Some, None, refl, sym, ap, ◌∙◌, subst, arith}
 use Rattle.std.proofs.lemmas.Bool.{cond_both}
+use Rattle.std.proofs.lemmas.Option.{same_Some}
 use Rattle.std.proofs.lemmas.Nat.{div-add-mod', div_below, mod_below}
 use Rattle.octets.specs.Octets.{byte}
 use Rattle.geometry.specs.Cells.{width, frame_size, cell}
-use Rattle.marks.specs.Marks.{mark_of, is_known}
+use Rattle.marks.specs.declared.Mark.{Mark}
+use Rattle.marks.specs.declared.Mark.TheVariants.{Unknown, Received, Start, Padding, Filled as FilledMark}
+use Rattle.marks.specs.Marks.{mark_of, is_known, is_start}
 use Rattle.rowcode.specs.Rows.{OnlyIs, TwoAre}
 use Rattle.rowcode.specs.Answers.{number_of}
 use Rattle.rowcode.specs.declared.Mended.{Mended}
 use Rattle.rowcode.specs.declared.Mended.TheVariants.{Filled, Torn, Open}
 use Rattle.table.specs.Tables.{Table}
-use Rattle.table.specs.Bursts.{known_at}
-use Rattle.table.specs.Rows.{OnlyAgrees, OneAgrees, NoneAgrees, SeveralAgree}
+use Rattle.table.specs.Bursts.{known_at, start_at}
+use Rattle.table.specs.Rows.{AgreesInRow, OnlyAgrees, OneAgrees, NoneAgrees, SeveralAgree}
 use Rattle.table.specs.Closing.{filled_mark, RowClosed}
 use Rattle.ledger.specs.Ledgers.{RowKnows, RowSettled}
 use Rattle.ledger.specs.Runs.{World}
@@ -47,13 +50,26 @@ one_name a b same = sym (answer_of_name a) ∙ ap answer_of same ∙ answer_of_n
 
 -- ---- row r of a table with R rows
 
-not_two : {P : List ℕ → Type 0} {row : List ℕ} → OnlyIs P row → TwoAre P → ⊥
+pub not_two : {P : List ℕ → Type 0} {row : List ℕ} → OnlyIs P row → TwoAre P → ⊥
 not_two only two = two.differ (only.only two.one two.one_is ∙ sym (only.only two.other two.other_is))
 
 -- a cell of a filled row is known, whatever it was before
 filled_known : (mark b : ℕ) → cond (is_known (mark_of (filled_mark mark))) (Some b) None ≡ Some b
 filled_known mark b =
     cond_both (is_known (mark_of mark)) mark 4 (λ x. cond (is_known (mark_of x)) (Some b) None ≡ Some b) (λ known. rw known) (λ _. refl)
+
+-- a start is known
+start_known : (mark : Mark) → is_known mark ≡ false → is_start mark ≡ false
+start_known Unknown unknown = refl
+start_known Received unknown = cc
+start_known Start unknown = cc
+start_known Padding unknown = cc
+start_known FilledMark unknown = cc
+
+-- so a cell of a filled row is a start if it was one before
+filled_start : (mark : ℕ) → is_start (mark_of (filled_mark mark)) ≡ is_start (mark_of mark)
+filled_start mark =
+    cond_both (is_known (mark_of mark)) mark 4 (λ x. is_start (mark_of x) ≡ is_start (mark_of mark)) (λ _. refl) (λ unknown. sym (start_known (mark_of mark) unknown))
 
 module _ (m : ℕ) (codeword : List ℕ → Type 0) (R : ℕ) where
   -- what an answer says of the codewords that agree with the row
@@ -89,6 +105,13 @@ module _ (m : ℕ) (codeword : List ℕ → Type 0) (R : ℕ) where
   row_closes cells marks cells_after marks_after r Torn (none, _, unmarked) = (none, λ c below. rw (unmarked c below))
   row_closes cells marks cells_after marks_after r Open (several, bytes, same) = (several, λ c below. rw (same c below, bytes c below))
 
+  -- its starts stay, if some codeword agrees with it
+  pub row_starts : (cells marks cells_after marks_after : List ℕ) (r : ℕ) (answer : Mended) → RowClosed m codeword R cells marks cells_after marks_after r answer
+      → (word : List ℕ) → AgreesInRow m codeword R (known_at cells marks) r word → (c : ℕ) → c < width m → start_at marks_after (cell R r c) ≡ start_at marks (cell R r c)
+  row_starts cells marks cells_after marks_after r Filled (_, (_, _, filled)) word agrees c below = rw (filled c below) (filled_start (byte marks (cell R r c)))
+  row_starts cells marks cells_after marks_after r Torn (none, _, _) word agrees c below = absurd (none word agrees)
+  row_starts cells marks cells_after marks_after r Open (_, _, same) word agrees c below = rw (same c below)
+
   module _ (before : ℕ → Option ℕ) (r : ℕ) where
     says : (after : ℕ → Option ℕ) (answer : Mended) → RowSettled m codeword R before after r answer → Says before r answer
     says after Filled (word, (only, has)) = (word, only)
@@ -101,6 +124,24 @@ module _ (m : ℕ) (codeword : List ℕ → Type 0) (R : ℕ) where
     holds after Filled (own, (sole, has)) word only c below = has c below ∙ ap (λ w. Some (byte w c)) (only.only own sole.is)
     holds after Torn (none, _) word only c below = absurd (none word only.is)
     holds after Open (several, _) word only c below = absurd (not_two only several)
+
+    -- a codeword that agrees with the row still does then, and each cell that was known is known still
+    pub agrees_still : (after : ℕ → Option ℕ) (answer : Mended) → RowSettled m codeword R before after r answer
+        → (word : List ℕ) → AgreesInRow m codeword R before r word → AgreesInRow m codeword R after r word
+    agrees_still after Filled (own, (sole, has)) word agrees = record {
+      is_codeword = agrees.is_codeword;
+      same = λ c b below is. ap (λ w. byte w c) (sole.only word agrees) ∙ same_Some (byte own c) b (sym (has c below) ∙ is);
+    }
+    agrees_still after Torn (none, _) word agrees = absurd (none word agrees)
+    agrees_still after Open (_, has) word agrees =
+        record { is_codeword = agrees.is_codeword; same = λ c b below is. agrees.same c b below (sym (has c below) ∙ is) }
+
+    pub known_still : (after : ℕ → Option ℕ) (answer : Mended) → RowSettled m codeword R before after r answer
+        → (word : List ℕ) → AgreesInRow m codeword R before r word → (c : ℕ) → c < width m
+        → (b : ℕ) × (before (cell R r c) ≡ Some b) → (b : ℕ) × (after (cell R r c) ≡ Some b)
+    known_still after Filled (own, (_, has)) word agrees c below known = (byte own c, has c below)
+    known_still after Torn (none, _) word agrees c below known = absurd (none word agrees)
+    known_still after Open (_, has) word agrees c below (b, is) = (b, has c below ∙ is)
 
     -- a row closes in one way
     closes_so : (one other : ℕ → Option ℕ) (answer : Mended) → RowSettled m codeword R before one r answer → RowSettled m codeword R before other r answer

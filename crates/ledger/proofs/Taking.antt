@@ -15,11 +15,11 @@ use Rattle.table.specs.Taking.{byte_after, mark_after, numbers_after, Took}
 pub listed : (n : ℕ) → (ℕ → ℕ) → List ℕ
 listed n at = map at (range_with_len 0 n)
 
-length_listed : (n : ℕ) (at : ℕ → ℕ) → length (listed n at) ≡ n
+pub length_listed : (n : ℕ) (at : ℕ → ℕ) → length (listed n at) ≡ n
 unfolding listed
 length_listed n at = length-map-range_with_len at 0 n
 
-byte_listed : (n : ℕ) (at : ℕ → ℕ) (i : ℕ) → (n ≤ i → at i ≡ 0) → byte (listed n at) i ≡ at i
+pub byte_listed : (n : ℕ) (at : ℕ → ℕ) (i : ℕ) → (n ≤ i → at i ≡ 0) → byte (listed n at) i ≡ at i
 unfolding listed
 byte_listed n at i behind =
     ⊎_elim (λ below. get_or-map-range_with_len at 0 n i i 0 below (omega arith))

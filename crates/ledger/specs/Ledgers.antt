@@ -13,7 +13,7 @@ use Rattle.table.specs.Rules.{start_rules, take_rules}
 use Rattle.table.specs.Taking.{Entered}
 use Rattle.table.specs.Rows.{OnlyAgrees, NoneAgrees, SeveralAgree}
 use Rattle.table.specs.Closing.{close_rules}
-use Rattle.ledger.specs.Calls.{Call, start, take, close}
+use Rattle.ledger.specs.Calls.{Call, start, take, close, «open», next}
 
 -- row r holds this, by its columns
 abbrev pub RowKnows : (m R : ℕ) → (at : ℕ → Option ℕ) → (r : ℕ) → (ℕ → Option ℕ) → Type 0
@@ -60,3 +60,10 @@ pub data Ledger (m : ℕ) (codeword : List ℕ → Type 0) (sizes : ℕ → Opti
   kept_at_close : (calls : List Call) (t : Table) (cells marks scratch names : ℕ) (e : Refusal)
       → Ledger m codeword sizes calls t → Refused (close_rules m t.rows cells marks scratch names) e
       → Ledger m codeword sizes (close cells marks scratch names ∷ calls) t
+  -- open and next change nothing
+  kept_at_open : (calls : List Call) (t : Table) (cells marks : ℕ)
+      → Ledger m codeword sizes calls t
+      → Ledger m codeword sizes («open» cells marks ∷ calls) t
+  kept_at_next : (calls : List Call) (t : Table) (read_out : ℕ)
+      → Ledger m codeword sizes calls t
+      → Ledger m codeword sizes (next read_out ∷ calls) t

@@ -1,18 +1,19 @@
--- Runs: what lists of calls can lead to. A step is just what the contract of its call says, so no run is told what a call should do.
-use Rattle.std.specs.Prelude.{◌≡◌, ℕ, List, [], ◌∷◌, length, Option, Some, Result, Ok, Err}
+-- Runs: what lists of calls can lead to. A step is just what the contract of its call says: nothing else is assumed of a call.
+use Rattle.std.specs.Prelude.{◌≡◌, ℕ, List, [], ◌∷◌, ◌++◌, length, Option, Some, None, Result, Ok, Err}
 use Rattle.geometry.specs.Sizes.{buffers_rule}
 use Rattle.refusal.specs.declared.Refusal.{Refusal}
 use Rattle.refusal.specs.declared.Refusal.TheVariants.{FrameBuffers}
 use Rattle.table.specs.Bursts.{Numbers, ClosedNumbers}
 use Rattle.table.specs.Calls.{StartAnswers, StartStays, TakeAnswers, TakeStays, CloseAnswers, CloseStays, GivesBack, reason}
-use Rattle.ledger.specs.Calls.{start, take, close, done, closed, refused, History, noted}
+use Rattle.reading.specs.Reading.{ReadOut, Placed, OpenAnswers, NextAnswers}
+use Rattle.ledger.specs.Calls.{start, take, close, «open», next, Answer, done, closed, handed, at_end, refused, History, noted}
 
--- what there is of the burst that the last start gave that was not refused: nothing, if there was no such start; an open burst; or a
--- closed one
+-- what there is of the burst of the last start that was not refused: nothing, if there was no such start; an open burst; or a
+-- closed one, with its read-outs in the order in which they were opened
 pub data Stage : Type 0 where
   unstarted : Stage
   open_burst : Numbers → Stage
-  closed_burst : ClosedNumbers → Stage
+  closed_burst : ClosedNumbers → List ReadOut → Stage
 
 -- the burst and its two buffers
 pub record World : Type 0 where
@@ -20,6 +21,7 @@ pub record World : Type 0 where
   pub marks : List ℕ
   pub stage : Stage
 
+-- such a world
 abbrev pub world : (cells marks : List ℕ) → Stage → World
 world cells marks stage = record { cells = cells; marks = marks; stage = stage }
 
@@ -32,6 +34,9 @@ TakeResult = Result (Unit {0}) Refusal
 
 abbrev pub CloseResult : Type 0
 CloseResult = Result ClosedNumbers (Refusal × Numbers)
+
+abbrev pub OpenResult : Type 0
+OpenResult = Result ReadOut Refusal
 
 -- what the contracts of the calls say, of their numbers
 abbrev pub StartSays : (sizes : ℕ → Option ℕ) → (m code : ℕ) → (cells marks marks_after : List ℕ) → StartResult → Type 0
@@ -50,6 +55,14 @@ CloseSays m codeword before cells marks scratch names cells_after marks_after sc
     CloseAnswers m codeword before cells marks scratch names cells_after marks_after scratch_after names_after (λ b. b) (reason result)
     × CloseStays cells marks scratch names cells_after marks_after scratch_after names_after result
     × GivesBack before result
+
+abbrev pub OpenSays : (m : ℕ) → (burst : ClosedNumbers) → (cells marks : List ℕ) → OpenResult → Type 0
+OpenSays m burst cells marks result = OpenAnswers m burst cells marks (λ r. r) result
+
+-- what is noted of the answer of next
+abbrev pub answer_of_next : Option Placed → Answer
+answer_of_next (Some datagram) = handed datagram
+answer_of_next None = at_end
 
 -- The calls h, the latest first, with their answers, lead to this world: for m check columns, a set of codewords, and a map from
 -- size codes to rows. All bursts of a run are of that one row code. Nothing but the calls changes the burst and its buffers.
@@ -92,7 +105,7 @@ pub data Run (m : ℕ) (codeword : List ℕ → Type 0) (sizes : ℕ → Option 
       → Run m codeword sizes h (world cells marks (open_burst burst))
       → CloseSays m codeword burst cells marks scratch names cells_after marks_after scratch_after names_after (Ok after)
       → Run m codeword sizes (noted (close (length cells) (length marks) (length scratch) (length names)) (closed names_after) ∷ h)
-      (world cells_after marks_after (closed_burst after))
+      (world cells_after marks_after (closed_burst after []))
   close_refused : (h : History) (burst back : Numbers) (cells marks scratch names cells_after marks_after scratch_after names_after : List ℕ) (e : Refusal)
       → Run m codeword sizes h (world cells marks (open_burst burst))
       → CloseSays m codeword burst cells marks scratch names cells_after marks_after scratch_after names_after (Err (e, back))
@@ -106,3 +119,18 @@ pub data Run (m : ℕ) (codeword : List ℕ → Type 0) (sizes : ℕ → Option 
       → CloseSays m codeword burst others other_marks scratch names others_after other_marks_after scratch_after names_after (Err (e, back))
       → Run m codeword sizes (noted (close (length others) (length other_marks) (length scratch) (length names)) (refused e) ∷ h)
       (world cells marks (open_burst back))
+  -- open, on a closed burst with its own buffers, gives one more read-out; the buffers are lent for reading
+  opens : (h : History) (burst : ClosedNumbers) (read_outs : List ReadOut) (read_out : ReadOut) (cells marks : List ℕ)
+      → Run m codeword sizes h (world cells marks (closed_burst burst read_outs))
+      → OpenSays m burst cells marks (Ok read_out)
+      → Run m codeword sizes (noted («open» (length cells) (length marks)) done ∷ h) (world cells marks (closed_burst burst (read_outs ++ (read_out ∷ []))))
+  -- a refused open, with any buffers: only 2 refuses one
+  open_refused : (h : History) (burst : ClosedNumbers) (read_outs : List ReadOut) (cells marks others other_marks : List ℕ) (e : Refusal)
+      → Run m codeword sizes h (world cells marks (closed_burst burst read_outs))
+      → OpenSays m burst others other_marks (Err e)
+      → Run m codeword sizes (noted («open» (length others) (length other_marks)) (refused e) ∷ h) (world cells marks (closed_burst burst read_outs))
+  -- next, on any of the read-outs
+  nexts : (h : History) (burst : ClosedNumbers) (front back : List ReadOut) (before after : ReadOut) (cells marks : List ℕ) (answer : Option Placed)
+      → Run m codeword sizes h (world cells marks (closed_burst burst (front ++ (before ∷ back))))
+      → NextAnswers before after answer
+      → Run m codeword sizes (noted (next (length front)) (answer_of_next answer) ∷ h) (world cells marks (closed_burst burst (front ++ (after ∷ back))))

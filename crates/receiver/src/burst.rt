@@ -1,14 +1,15 @@
 //! An open burst: started for a frame size, taking sections, and closed.
-ghost use Rattle.std.specs.Prelude.{◌≡◌, IfOk, OnOk, OnErr};
+ghost use Rattle.std.specs.Prelude.{◌≡◌, length, replicate, IfOk, OnOk, OnErr};
 ghost use Rattle.geometry.specs.Sizes.{four_sizes};
+ghost use Rattle.marks.specs.declared.Mark.TheVariants.{Unknown};
+ghost use Rattle.marks.specs.Marks.{mark_byte};
 ghost use Rattle.frame.specs.Fields.{fields_of};
 ghost use Rattle.table.specs.Bursts.{table_of};
 ghost use Rattle.table.specs.Calls.{StartAnswers, StartStays, TakeAnswers, TakeStays, CloseAnswers, CloseStays, GivesBack, reason};
 ghost use Rattle.table.specs.Closing.{Tallied};
 ghost use Rattle.table.specs.Laws.{TakesItsOwn, KeepsAgreeing, AgreesWithAll};
 ghost use Rattle.table.specs.Taking.{Stored, Entered};
-ghost use Rattle.ledger.specs.Law.{KeepsTheLedger};
-ghost use Rattle.ledger.specs.Steps.{StartSteps, TakeSteps, CloseSteps};
+ghost use Rattle.ledger.specs.Steps.{StartSteps, TakeSteps, CloseSteps, StartElsewhere, TakeElsewhere, CloseElsewhere};
 ghost use Rattle.receiver.specs.Views.{numbers_of, closed_numbers_of};
 ghost use Rattle.receiver.specs.Wakes.{wake_of};
 
@@ -31,6 +32,13 @@ pub struct Burst<C: RowCode> {
     code: PhantomData<C>,
 }
 
+// Marks every cell as unknown.
+fn unmark(marks: &mut [u8])
+    ensures { marks.new ≡ replicate (length marks.old) (mark_byte Unknown) }
+{
+    marks.fill(Mark::Unknown.byte());
+}
+
 impl<C: RowCode> Burst<C> {
     /// Starts a burst for a size code: every mark becomes 0, and no cell is touched. Refused under 1 and 2, with all as it was.
     pub fn start(size_code: u8, cells: &[u8], marks: &mut [u8]) -> Result<Burst<C>, Refusal>
@@ -39,11 +47,12 @@ impl<C: RowCode> Burst<C> {
         ensures stays { StartStays marks.old marks.new result }
         ensures steps { StartSteps C.check_columns C.codeword four_sizes «size_code» cells.now marks.old marks.new
             (λ burst. numbers_of burst.numbers) result }
+        ensures elsewhere { StartElsewhere C.check_columns C.codeword four_sizes «size_code» cells.now marks.old result }
         ensures agrees { IfOk result (λ burst. AgreesWithAll (table_of (numbers_of burst.numbers) cells.now marks.new)) }
     {
         let rows = Rows::of_size_code(size_code)?;
         rows.check_buffers::<C>(cells.len(), marks.len())?;
-        marks.fill(Mark::Unknown.byte());
+        unmark(marks);
         Ok(Burst {
             numbers: Numbers {
                 rows,
@@ -68,6 +77,8 @@ impl<C: RowCode> Burst<C> {
         ensures stays { TakeStays self.old self.new cells.old marks.old cells.new marks.new result }
         ensures steps { TakeSteps C.check_columns C.codeword section.now arrival
             (numbers_of self.old.numbers) cells.old marks.old (numbers_of self.new.numbers) cells.new marks.new result }
+        ensures elsewhere { TakeElsewhere C.check_columns C.codeword section.now arrival
+            (numbers_of self.old.numbers) (numbers_of self.new.numbers) cells.old marks.old result }
         ensures payload { OnOk result
             (Stored self.old.numbers.rows.count (fields_of section.now) cells.new marks.new) }
         ensures entered { OnOk result
@@ -106,9 +117,9 @@ impl<C: RowCode> Burst<C> {
         ensures back { GivesBack self result }
         ensures steps { CloseSteps C.check_columns C.codeword (numbers_of self.numbers) cells.old marks.old scratch.old names.old
             cells.new marks.new names.new (λ closed. closed_numbers_of closed.0.numbers) (λ back. numbers_of back.numbers) result }
+        ensures elsewhere { CloseElsewhere C.check_columns C.codeword (numbers_of self.numbers) cells.old marks.old scratch.old names.old
+            (λ back. numbers_of back.numbers) result }
         ensures code { OnErr result (code.new ≡ code.old) }
-        // What holds after any list of calls of start, take and close.
-        ensures law { KeepsTheLedger C.check_columns C.codeword }
     {
         match close_rows(self.numbers.rows, code, cells, marks, scratch, names) {
             Ok(tallies) => Ok((

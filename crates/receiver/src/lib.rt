@@ -1,10 +1,12 @@
-//! The receiver: a burst is started, takes sections into its table whole or turns them away, and is closed.
+//! The receiver: a burst is started, takes sections into its table whole or turns them away, is closed, and hands its datagrams
+//! out.
 #![tactic(auto)]
 
 mod burst;
 mod checking;
 mod closed;
 mod numbers;
+mod readout;
 mod storing;
 mod taking;
 mod telling;
@@ -13,4 +15,5 @@ mod wake;
 pub use burst::Burst;
 pub use closed::ClosedBurst;
 pub use closing::Tallies;
+pub use readout::{Datagram, ReadOut};
 pub use wake::{Alarm, Wake, WakeOrder};

@@ -17,7 +17,7 @@ use Rattle.table.proofs.Finding.{find_none, any_none}
 use Rattle.table.proofs.Right.{EndRight, PaddingRight, Right}
 
 -- what is told rightly leaves room for the datagrams
-limit_reaches : (R end : ℕ) (e p : Option ℕ) → EndRight end e → PaddingRight R end p → end ≤ table_size R → end ≤ limit_of R e p
+pub limit_reaches : (R end : ℕ) (e p : Option ℕ) → EndRight end e → PaddingRight R end p → end ≤ table_size R → end ≤ limit_of R e p
 limit_reaches R end (Some e) p end_right padding_right fit = omega (arith, end_right e refl)
 limit_reaches R end None (Some p) end_right padding_right fit = (padding_right p refl).1
 limit_reaches R end None None end_right padding_right fit = fit

@@ -5,6 +5,7 @@ use Rattle.gf256.specs.Products.{polynomial_product, remainder_below, times}
 use Rattle.gf256.specs.Sums.{field_sum}
 use Rattle.rs_code.specs.Counts.{count}
 use Rattle.section.specs.Layout.{written}
+use Rattle.ledger.proofs.OnlyRepair.{only_repair}
 use Rattle.ledger.proofs.WitnessRun.{met}
 use Rattle.worked_cases.proofs.Frames.{own_case}
 use Rattle.worked_cases.proofs.Rows.{row_cases}
@@ -22,3 +23,6 @@ returns-clause-own c = own_case
 
 pub returns-clause-run : goal.returns-clause-run
 returns-clause-run c = met
+
+pub returns-clause-shut_out : goal.returns-clause-shut_out
+returns-clause-shut_out c = only_repair

@@ -2,7 +2,7 @@ use Rattle.std.proofs.Common.{length, rules}
 use Rattle.frame.specs.Fields.{fields_of}
 use Rattle.table.specs.Bursts.{table_of}
 use Rattle.receiver.specs.Views.{numbers_of}
-use Rattle.ledger.proofs.Steps.{take_steps}
+use Rattle.ledger.proofs.Steps.{take_steps, take_elsewhere}
 use Rattle.table.proofs.Order.{answers_behind}
 use Rattle.table.proofs.Takes.{takes_own, takes_stored, takes_entered, takes_keeping}
 use Rattle.receiver.proofs.burst.Burst.take.Goals as goal
@@ -38,4 +38,14 @@ returns-in_err-check_buffers-clause-steps g c =
 pub returns-clause-steps : goal.returns-clause-steps
 returns-clause-steps g c =
     take_steps g.C.RowCode.check_columns g.C.RowCode.codeword c.args.section.now c.args.arrival numbers_of c.args.self.now.numbers c.take.new.self
+    c.args.cells.now c.args.marks.now c.take.new.cells c.take.new.marks c.take.result (returns-clause-answer g c) c.take.ensures.stays
+
+pub returns-in_err-check_buffers-clause-elsewhere : goal.returns-in_err-check_buffers-clause-elsewhere
+returns-in_err-check_buffers-clause-elsewhere g c =
+    take_elsewhere g.C.RowCode.check_columns g.C.RowCode.codeword c.args.section.now c.args.arrival (λ n. n) (numbers_of c.args.self.now.numbers) (numbers_of c.args.self.now.numbers)
+    c.args.cells.now c.args.marks.now c.args.cells.now c.args.marks.now c.from_residual.result (search rules) (search rules)
+
+pub returns-clause-elsewhere : goal.returns-clause-elsewhere
+returns-clause-elsewhere g c =
+    take_elsewhere g.C.RowCode.check_columns g.C.RowCode.codeword c.args.section.now c.args.arrival numbers_of c.args.self.now.numbers c.take.new.self
     c.args.cells.now c.args.marks.now c.take.new.cells c.take.new.marks c.take.result (returns-clause-answer g c) c.take.ensures.stays
