@@ -2,7 +2,7 @@
 # Hold the stored test files, the reference listing, what sectionwrite writes and
 # what rowmend makes of rows against programs of others: crcmod (CRC_32), libfec
 # (RS(255,191)), scapy (IP datagrams) and tshark (sections in a transport stream);
-# and what bursttake makes of random bursts against the second receiver.
+# and what bursttake and burstlist make of random bursts against the second receiver.
 # What is missing is installed with apt-get (as root, from Debian); what is not to
 # be had is named, and the checks go on without it. Status 1 on any difference, 2
 # if something was not to be had. The rows and bursts are other ones each time: with a
@@ -64,11 +64,13 @@ trap 'rm -rf "$new"' EXIT
 "$python" tools/make_row_vectors.py "$new"
 ended $? "make_row_vectors.py did not end well" libfec-dev
 "$python" tools/make_take_vectors.py "$new" || differs "make_take_vectors.py did not end well"
+"$python" tools/make_burst_vectors.py "$new" || differs "make_burst_vectors.py did not end well"
 for name in samples/burst.bin crates/sectionlist/stdin crates/sectionlist/stdout \
             crates/section_vectors/stdin crates/section_vectors/stdout \
             crates/sectionwrite/stdin crates/sectionwrite/stdout \
             crates/rowmend/stdin crates/rowmend/stdout crates/linkdemo/stdout \
-            crates/bursttake/stdin crates/bursttake/stdout; do
+            crates/bursttake/stdin crates/bursttake/stdout \
+            crates/burstlist/stdin crates/burstlist/stdout; do
     if [ ! -f "$new/$name" ]; then
         say "not made anew, not compared: $name"
         [ -n "$missing" ] || differs "$name is not made anew"
@@ -135,6 +137,13 @@ take_bursts() {
 }
 say "== What bursttake makes of bursts made at random, held against the second receiver"
 take_bursts "$@"
+
+list_bursts() {
+    built burstlist || return
+    "$python" tools/burst_compare.py target/bin/burstlist "$@" || differs "what burstlist lists of these bursts"
+}
+say "== What burstlist lists of bursts, about half of them made at random, held against the second receiver"
+list_bursts "$@"
 
 say "== End"
 [ $status = 0 ] && say "no difference in what was compared" || say "there are differences"

@@ -1,13 +1,14 @@
 #!/usr/bin/python3
-"""Make the stored files of the program that has bursts take sections and closes them,
-always the same bytes; what is to come of each call is the second receiver's, and what a
-case was made to be:
+"""Make the stored files of the program that has bursts take sections, closes them and
+reads them out, always the same bytes; what is to come of each call is the second
+receiver's, and what a case was made to be:
 
-  crates/bursttake/stdin     buffers, starts, sections and closes, a line each
+  crates/bursttake/stdin     buffers, starts, sections, closes and read-outs, a line each
   crates/bursttake/stdout    the answers, and checksums of the buffers
 
 make_take_vectors.py [FOLDER] writes below FOLDER; without it, below the repository's
 root. Needs no package."""
+import itertools
 import os
 import random
 import sys
@@ -16,11 +17,11 @@ sys.dont_write_bytecode = True
 import reference_take as reference
 from reference_take import COLUMNS, ROWS
 from reference_write import fec, mpe, sealed
-from take_compare import CALLS, Frame, datagram, random_burst, take_line
+from take_compare import Frame, datagram, random_burst, take_line
 
 ROOT = os.path.dirname(os.path.dirname(os.path.abspath(__file__)))
 R, TABLE = ROWS[0], COLUMNS * ROWS[0]
-STARTED, TAKEN = "started", "taken"
+STARTED, TAKEN, OPENED = "started", "taken", "opened"
 
 
 def store(name, text):
@@ -30,7 +31,13 @@ def store(name, text):
         file.write(text)
 
 
-# ---- The lines, and what the answers to calls were made to be: none where that is left to the second receiver ----
+# ---- The lines, and what the answers of a line were made to be: none where one is left to the second receiver ----
+
+def ask(line, *said):
+    """A line that asks for calls; what their answers were made to be."""
+    lines.append(line)
+    due[len(lines)] = said
+
 
 def note(words):
     lines.append("# " + words)
@@ -45,20 +52,29 @@ def put(mark, first, count=1):
 
 
 def start(code, size_code, said=STARTED):
-    lines.append(f"start {code} {size_code}")
-    due.append(said)
+    ask(f"start {code} {size_code}", said)
 
 
 def take(section, said=TAKEN, arrival=None):
     """`said`: TAKEN, or the (number, place) of a refusal."""
-    lines.append(take_line(rng, section) if arrival is None else f"take {arrival} {section.hex().upper()}")
-    due.append(said)
+    ask(take_line(rng, section) if arrival is None else f"take {arrival} {section.hex().upper()}", said)
 
 
 def close(said, rows=R, scratch=255, names=None):
     """`said`: the tallies, with or without the wake order behind them, or as of take."""
-    lines.append(f"close {scratch} {rows if names is None else names}")
-    due.append(" ".join(map(str, ("closed", *said))) if said and len(said) > 2 else said)
+    said = " ".join(map(str, ("closed", *said))) if said and len(said) > 2 else said
+    ask(f"close {scratch} {rows if names is None else names}", said)
+
+
+def read_out(*datagrams, ends=2, some=None):
+    """A read-out: `datagrams`, their (address, datagram), `some` of which are asked for, or
+    all and then the end so many times."""
+    asked = [reference.told(each) for each in (*datagrams, *[None] * ends)][:some]
+    ask(f"open {len(asked)}", OPENED, *asked)
+
+
+def no_read_out():
+    ask(f"open {rng.randrange(4)}", (2, 0))
 
 
 def begin(frame):
@@ -651,33 +667,246 @@ def wakes():
     close((R, 0, 0, 80))
 
 
+# ---- Read-outs ----
+
+def losses():
+    note("nothing is lost: all come out, in the order of their addresses; a second read-out begins anew; the end stays the end")
+    frame = Frame(rng, "rs", 0, [60, 20, 300, 45, 256, 41, 21, 90], lawful=True)
+    for shuffled in (False, True):
+        sections = sections_of(frame, (0, 63))
+        if shuffled:
+            rng.shuffle(sections)
+            sections += rng.sample(sections, 5)
+        begin(frame)
+        take_all(frame, sections)
+        close((R, 0, 0))
+        read_out(*frame.datagrams, ends=9)
+        read_out(*frame.datagrams, some=3)
+        read_out(some=0)
+        read_out(*frame.datagrams)
+    note("a datagram is lost, and as many check columns come as it has columns; then one fewer, and none")
+    for numbers, rows, whole in (((0, 9), (R, 0, 0), True), ((9,), (212, 0, 44), False), ((), (0, 0, R), False)):
+        begin(frame)
+        sections = sections_of(frame, numbers)
+        take_all(frame, sections[:2] + sections[3:])
+        close(rows)
+        read_out(*(frame.datagrams if whole else frame.datagrams[:2] + frame.datagrams[3:]))
+
+    note("datagrams of whole columns: 64 of a row are missing, and 65, with check columns among them and without")
+    frame = Frame(rng, "rs", 0, [R, *[8 * R] * 8, R, R], lawful=True)
+    for lost, count, rows in (((), 0, (R, 0, 0)), ((0,), 0, (0, 0, R)), ((2, 4, 5), 24, (R, 0, 0)), ((2, 4, 5), 23, (0, 0, R)),
+                              (range(1, 9), 64, (R, 0, 0)), (range(9), 64, (0, 0, R))):
+        sections = [frame.check_section(s) for s in rng.sample(range(64), count)]
+        sections += [frame.datagram_section(k) for k in range(11) if k not in lost]
+        rng.shuffle(sections)
+        begin(frame)
+        take_all(frame, sections)
+        close(rows)
+        read_out(*(each for k, each in enumerate(frame.datagrams) if rows[0] or k not in lost))
+
+    note("the other sizes, and the bare code")
+    for code, size_code, sizes in (("rs", 1, (600, 60, 45)), ("rs", 3, (1500, 24, 600)), ("bare", 0, (300, 40, 200)), ("bare", 2, (60, 900))):
+        frame = all_taken(code, size_code, sizes)
+        close((frame.rows, 0, 0), frame.rows)
+        read_out(*frame.datagrams)
+    frame = all_taken("bare", 0, (300, 40, 200))
+    start("bare", 0)
+    take(frame.datagram_section(2))
+    take(frame.datagram_section(0))
+    close((216, 0, 40))
+    read_out(frame.datagrams[0], frame.datagrams[2])
+
+    note("without an end: by the table alone, and by p; no section at all")
+    frame = Frame(rng, "rs", 0, [60, 20, 300], lawful=True)
+    begin(frame)
+    for k in (0, 1, 2):
+        take(frame.datagram_section(k, tb=0))
+    close((0, 0, R))
+    read_out(*frame.datagrams)
+    begin(frame)
+    take(frame.check_section(1))
+    for k in (0, 1):
+        take(frame.datagram_section(k, tb=0))
+    close((80, 0, 176))                      # 65 bytes of the others are missing, or more
+    read_out(*frame.datagrams[:2])
+    begin(frame)
+    close((0, 0, R, "unknown"))
+    read_out()
+
+
+def torn_read_outs():
+    note("rows that a forged check column tears: no datagram with a byte there comes out, and the next one marked as a start is found")
+    frame = Frame(rng, "rs", 0, [60, 20, 30, 45, 50, 25], lawful=True)
+    for row, gone in ((0, (0,)), (59, (0,)), (60, (1,)), (80, (2,)), (82, (2,)), (84, (2,)), (109, (2,)), (112, (3,)), (204, (4,)), (229, (5,)), (230, ())):
+        begin(frame)
+        take_all(frame, sections_of(frame, (3,)))
+        take(fec(flipped(frame.check_columns[4], row), p=frame.p, s=4))
+        close((255, 1, 0))
+        read_out(*(each for k, each in enumerate(frame.datagrams) if k not in gone))
+    note("a forged datagram in the place of one that is lost")
+    begin(frame)
+    forged = datagram(rng, 45, 4)
+    for k in (0, 1, 2, 4, 5):
+        take(frame.datagram_section(k))
+    take(mpe(forged, address=110))
+    close((R, 0, 0))                         # 191 bytes are known of each row, which any codeword begins with
+    read_out(*frame.datagrams[:3], (110, forged), *frame.datagrams[4:])
+    begin(frame)
+    for k in (0, 1, 2, 4, 5):
+        take(frame.datagram_section(k))
+    take(mpe(forged, address=110))
+    take(frame.check_section(0))
+    close(None)
+    read_out(*frame.datagrams[:3], *frame.datagrams[4:])
+
+
+def head(version, length):
+    """The first six bytes of a datagram that tells this length."""
+    if version == 6:
+        return b"\x60\0\0\0" + (length - 40).to_bytes(2, "big")
+    return bytes([version << 4 | 5, 0]) + length.to_bytes(2, "big") + bytes(2)
+
+
+def heads():
+    note("heads of datagrams, and of none, inside another one; each is marked as the next start in turn; the limit is 5,000, and then the table's end")
+    frame = Frame(rng, "rs", 0, [1000, 4000])
+    address, data = frame.datagrams[1]
+    kinds = [(4, 20), (4, 19), (4, 0), (4, 40), (4, 4080), (4, 4081), (4, 65535), (6, 40), (6, 41), (6, 4080), (6, 4081), (0, 60), (5, 60), (7, 60), (15, 60)]
+    inner = [(100 + 7 * k, *kind) for k, kind in enumerate(kinds)]
+    # Up to the limit, and one byte beyond it.
+    inner += [(300 + 7 * k, version, 4000 - (300 + 7 * k) + k % 2) for k, version in enumerate((4, 4, 6, 6))]
+    for place, version, length in inner:
+        told = head(version, length)
+        data = data[:place] + told + data[place + len(told):]
+    for tb in (1, 0):
+        begin(frame)
+        take(frame.datagram_section(0))
+        take(mpe(data, address=address, tb=tb))
+        close(None)
+        put(0, address)                      # not known any more
+        for place, version, length in inner:
+            put(2, address + place)
+            whole = version in (4, 6) and 20 <= length <= 4000 - place
+            read_out(frame.datagrams[0], *[(address + place, data[place:place + length])] * whole)
+            put(rng.choice((1, 3, 4)), address + place)
+
+    note("each byte of a datagram that is not known: those of its length keep it from being one, any other from coming out")
+    frame = Frame(rng, "rs", 0, [50, 60, 30, 40], lawful=True)
+    (_, first), (address, data), *others = frame.datagrams
+    for version, told in ((4, (0, 2, 3)), (6, (0, 4, 5))):
+        data = datagram(rng, 60, version)
+        begin(frame)
+        take(mpe(first, address=0))
+        take(mpe(data, address=address))
+        for k, (_, each) in enumerate(others):
+            take(mpe(each, address=frame.datagrams[2 + k][0], tb=k))
+        close((R, 0, 0))
+        for index in (0, 1, 2, 3, 4, 5, 6, 58, 59):
+            put(2, address)
+            put(rng.choice((0, 5, 255)), address + index)
+            # Where it is no datagram, the next start is taken: the one behind it, or one inside.
+            inside = rng.randrange(10, 50)
+            put(2, address + inside)
+            read_out(frame.datagrams[0], *frame.datagrams[2:])
+            put(1, address + inside)
+            put(rng.choice((1, 3, 4)), address + index)
+        read_out(frame.datagrams[0], (address, data), *frame.datagrams[2:])
+        put(1, frame.datagrams[2][0])        # no start any more
+        put(0, address)
+        read_out(frame.datagrams[0], frame.datagrams[3])
+        put(0, address + 2)
+        put(3, address)
+        put(0, 0, 50)
+        read_out(frame.datagrams[3])
+        put(1, frame.datagrams[3][0])
+        read_out()
+
+
+def places():
+    note("a datagram may end at the limit, and one that begins there is none; starts behind the limit do not count")
+    frame = Frame(rng, "rs", 0, [40, 50], lawful=True)
+    begin(frame)
+    take_all(frame, sections_of(frame, ()))
+    close((R, 0, 0))
+    put(2, 90)
+    put(2, TABLE - 20)
+    read_out(*frame.datagrams)
+    put(0, 40)
+    read_out(frame.datagrams[0])
+    note("at the end of the table")
+    frame = Frame(rng, "rs", 0, [20], lawful=True)
+    for size in (20, 40, 4080):
+        last = datagram(rng, size, 4)
+        begin(frame)
+        take(frame.datagram_section(0, tb=0))
+        take(mpe(last, address=TABLE - size, tb=rng.randrange(2)))
+        close(None)
+        read_out(frame.datagrams[0], (TABLE - size, last))
+        put(0, TABLE - 1)
+        read_out(frame.datagrams[0])
+    note("a cell of 0 is no datagram: zeros up to the next start")
+    frame = Frame(rng, "rs", 0, [30, 20], lawful=True)
+    begin(frame)
+    take(frame.datagram_section(1))
+    close((226, 0, 30))
+    read_out(frame.datagrams[1])
+    put(1, 0, 30)                            # 0xAA
+    read_out(frame.datagrams[1])
+
+
+def refused_opens():
+    size = (COLUMNS + 64) * R
+    note("2, where other buffers are lent, of one wrong length or both; the closed burst can still be opened")
+    frame = all_taken("rs", 0, (60, 40))
+    close((R, 0, 0))
+    for cells, marks in ((size, size - 1), (size - 1, size), (size, size + 1), (0, 0), (TABLE, TABLE), (2 * size, 2 * size)):
+        buffers(cells, marks)
+        no_read_out()
+    buffers(size)
+    read_out()
+    put(1, 0, 100)
+    put(2, 20)
+    read_out()                               # 0xAA in each cell
+    note("a start that is refused leaves the closed burst, too")
+    start("rs", 9, (1, 0))
+    read_out()
+    note("bare")
+    frame = all_taken("bare", 1, (60, 40))
+    close((512, 0, 0), 512)
+    read_out(*frame.datagrams)
+    for cells, marks in ((size, size), (2 * TABLE, 2 * TABLE - 1), (2 * TABLE + 1, 2 * TABLE), (2 * size, 2 * size)):
+        buffers(cells, marks)
+        no_read_out()
+
+
 def at_random():
     note("sections at random")
     for _ in range(4):
-        for line in random_burst(rng, 25, most=200):
-            lines.append(line)
-            if line.split(" ")[0] in CALLS:
-                due.append(None)
+        lines.extend(random_burst(rng, 25, most=200))
 
 
 # ---- The files ----
 
 FOLDER = sys.argv[1] if len(sys.argv) > 1 else ROOT
-lines, due = [], []
+lines, due = [], {}
 rng = random.Random(191256)
 for cases in (starts, lawful, refused_alone, beyond_limit, differences, ends, put_marks,
-              fillings, tearings, other_marks, bare_closes, refused_closes, wakes, at_random):
+              fillings, tearings, other_marks, bare_closes, refused_closes, wakes,
+              losses, torn_read_outs, heads, places, refused_opens, at_random):
     if lines:
         lines.append("")
     cases()
 # The last line ends with a carriage return too, which makes no difference.
 read = "\n".join(lines) + "\r\n"
-told = reference.answers(read)
-calls = [line for line in lines if line.split(" ")[0] in CALLS]
-assert len(calls) == len(due) == len(told.splitlines())
-for number, (line, said, answer) in enumerate(zip(calls, due, told.splitlines())):
-    word, *rest = answer.split(" ")
-    found = (int(rest[0]), int(rest[2])) if word == "refused" else answer
-    assert said in (None, found) or answer.startswith(f"{said} "), (number, line[:100], said, answer)
+told = {number: [answer for _, answer in group] for number, group
+        in itertools.groupby(reference.answered(read.splitlines()), lambda pair: pair[0])}
+for number, answers in told.items():
+    said = due.get(number, [None] * len(answers))
+    assert len(said) == len(answers), (number, lines[number - 1][:100], said, answers)
+    for one, answer in zip(said, answers):
+        word, *rest = answer.split(" ")
+        found = (int(rest[0]), int(rest[2])) if word == "refused" else answer
+        assert one in (None, found) or answer.startswith(f"{one} "), (number, lines[number - 1][:100], one, answer)
+assert due.keys() <= told.keys()
 store("crates/bursttake/stdin", read)
-store("crates/bursttake/stdout", told)
+store("crates/bursttake/stdout", "".join(answer + "\n" for answers in told.values() for answer in answers))

@@ -3,7 +3,7 @@
 # the files are there, the reference listing gives the stored listing, the
 # section vectors and the sections to write are right, the stored rows are right by
 # the definition of their code, and mended by it, the stored bursts are made anew and
-# answered by the second program as is stored, each must-fail edit stands once in its
+# answered by the second receiver as is stored, each must-fail edit stands once in its
 # source, README shows the listing of the sample and what linkdemo prints, it and
 # docs/TESTING.md tell how much is stored. One line for each check; status 1 if one
 # fails.
@@ -21,7 +21,8 @@ for name in samples/burst.bin crates/sectionlist/stdin crates/sectionlist/stdout
             crates/section_vectors/stdin crates/section_vectors/stdout \
             crates/sectionwrite/stdin crates/sectionwrite/stdout \
             crates/rowmend/stdin crates/rowmend/stdout crates/linkdemo/stdout \
-            crates/bursttake/stdin crates/bursttake/stdout; do
+            crates/bursttake/stdin crates/bursttake/stdout \
+            crates/burstlist/stdin crates/burstlist/stdout; do
     test -s "$name"
     result $? "$name is there and not empty"
 done
@@ -38,6 +39,9 @@ trap 'rm -rf "$new"' EXIT
 "$python" tools/make_take_vectors.py "$new" && cmp "$new/crates/bursttake/stdin" crates/bursttake/stdin \
     && cmp "$new/crates/bursttake/stdout" crates/bursttake/stdout
 result $? "made anew, each case as it was made to be, crates/bursttake/stdin and stdout are the same"
+"$python" tools/make_burst_vectors.py "$new" && cmp "$new/crates/burstlist/stdin" crates/burstlist/stdin \
+    && cmp "$new/crates/burstlist/stdout" crates/burstlist/stdout
+result $? "made anew, as it was made to be, crates/burstlist/stdin and stdout are the same"
 
 "$python" - <<'EOF'
 import collections
@@ -46,6 +50,7 @@ import os
 import sys
 sys.dont_write_bytecode = True
 sys.path.insert(0, "tools")
+import reference_burst as bursts
 import reference_list as reference
 import reference_rows as rows
 import reference_write as writer
@@ -114,6 +119,9 @@ with open("samples/burst.bin", "rb") as file:
 with open("README.md") as file:
     readme = file.read()
 result(shown in readme, "README shows the listing of samples/burst.bin")
+with open("samples/burst.bin", "rb") as file:
+    shown = "".join("    " + row + "\n" for row in bursts.listing(file.read()).splitlines())
+result(shown in readme, "README shows the datagrams of samples/burst.bin")
 with open("crates/linkdemo/stdout") as file:
     told = "".join("    " + line if line.strip() else line for line in file)
 result(told in readme, "README shows what linkdemo prints")
@@ -130,13 +138,15 @@ told = f"| {len(mended)} rows, and what `rowmend` must answer and leave of each 
 result(told in testing, "docs/TESTING.md tells what rows are stored: " + told)
 answers = lines("crates/bursttake/stdout")
 said = collections.Counter(answer.split(" ")[0] for answer in answers)
-kinds = ", ".join(f"{said[kind]} {kind}" for kind in ("started", "taken", "closed", "refused"))
+kinds = ", ".join(f"{said[kind]} {words}" for kind, words in (
+    ("started", "started"), ("taken", "taken"), ("closed", "closed"), ("opened", "opened"),
+    ("datagram", "datagrams handed out"), ("end", "at the end"), ("refused", "refused")))
 told = f"| {len(answers):,} calls, and what `bursttake` must print of each ({kinds})."
-calls = f"{len(answers):,} calls of start, take and close"
+calls = f"{len(answers):,} calls of start, take, close, open and next"
 result(calls in on_one_line, "README tells how many stored: " + calls)
-result(told in testing and len(said) == 4, "docs/TESTING.md tells what calls are stored: " + told)
+result(told in testing and len(said) == 7, "docs/TESTING.md tells what calls are stored: " + told)
 refused = collections.Counter(answer.split(" ")[1] for answer in answers if answer.startswith("refused"))
-result(all(refused[str(number)] > 1 for number in range(1, 14)), "each refusal of start, take and close is among them")
+result(all(refused[str(number)] > 1 for number in range(1, 14)), "each refusal of start, take, close and open is among them")
 sys.exit(bad)
 EOF
 [ $? = 0 ] || status=1

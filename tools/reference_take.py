@@ -1,19 +1,22 @@
 #!/usr/bin/python3
-"""Make the calls start, take and close of a receiver that the lines of standard input
-ask for, and print what each answers, with the CRC_32 of the cells and of the marks
-afterwards, and after a close of the scratch row and of the names. Written from the
-rules alone, plain and slow, to be held against another program. A line is
+"""Make the calls of a receiver that the lines of standard input ask for, and print what
+each answers, with the CRC_32 of the cells and of the marks afterwards, and after a close
+of the scratch row and of the names. Written from the rules alone, plain and slow, to be
+held against another program. A line is
 
   buffers CELLS MARKS     buffers of so many bytes from now on, 0xAA and 0xC8 in them
   put MARK FROM COUNT     a byte into so many marks, from one on
   start CODE SIZE         CODE is `rs` or `bare`
   take ARRIVAL SECTION    the section in hex, `-` for no bytes
   close SCRATCH NAMES     a scratch row and names of so many bytes, 0xC9 and 0xAA in them
+  open COUNT              a read-out of the closed burst, and COUNT times next
 
-Lines that are empty or begin with # are passed over. A line is answered by `started`,
-`taken`, `closed FILLED TORN OPEN WAKE` or `refused NUMBER LAYER PLACE`, and then the
-checksums; WAKE is a moment, `end` or `unknown`. After a close that is not refused there
-is no burst until the next start."""
+Lines that are empty or begin with # are passed over. A call is answered by `started`,
+`taken`, `closed FILLED TORN OPEN WAKE`, `opened` or `refused NUMBER LAYER PLACE`, and
+then the checksums; WAKE is a moment, `end` or `unknown`. A next is answered by
+`datagram ADDRESS LENGTH` and the CRC_32 of the datagram, or by `end`. After a close that
+is not refused no burst is open until the next start, and the closed one is there until
+then."""
 import sys
 import zlib
 
@@ -143,14 +146,6 @@ class Burst:
         arrival, delta_t = self.latest
         return str(arrival + 10 * delta_t) if delta_t else "end"
 
-    def close_row(self, r, name, word, cells, marks):
-        """What one row is now: filled with this word, torn, or open."""
-        for i, byte in zip(range(r, len(cells), self.rows), word):
-            if name == 2:
-                marks[i] = UNKNOWN
-            if name == 1 and not is_known(marks[i]):
-                cells[i], marks[i] = byte, FILLED
-
     def close(self, cells, marks, scratch, names):
         """Mend all rows; or (number, place) of the refusal, and nothing is done."""
         if not self.fits(cells, marks):
@@ -158,20 +153,63 @@ class Burst:
         if len(scratch) != 255 or len(names) != self.rows:
             return 3, 0
         columns = [bytes(cells[i:i + self.rows]) for i in range(0, len(cells), self.rows)]
-        missing = [[i for i, mark in enumerate(marks[r::self.rows]) if not is_known(mark)] for r in range(self.rows)]
+        known = bytes(map(is_known, marks))
+        missing = [[i for i, each in enumerate(known[r::self.rows]) if not each] for r in range(self.rows)]
         answers, columns = row_code.mended_all(self.code, columns, missing)
-        for r, (answer, word) in enumerate(zip(answers, zip(*columns))):
+        for r, answer in enumerate(answers):
             names[r] = NAMES[answer]
-            self.close_row(r, names[r], word, cells, marks)
+            if answer == row_code.TORN:
+                marks[r::self.rows] = bytes(len(columns))
+            elif answer == row_code.FILLED:
+                for i in missing[r]:
+                    cells[i * self.rows + r], marks[i * self.rows + r] = columns[i][r], FILLED
         scratch[:] = bytes(255)
         return None
 
 
+class ReadOut:
+    """Datagrams of a closed burst, one after another."""
+
+    def __init__(self, limit, cells, marks):
+        self.limit, self.cells, self.marks = limit, cells, marks
+        self.place = 0
+
+    def byte(self, address):
+        """The byte there; none if it is unknown or not below the limit."""
+        return self.cells[address] if address < self.limit and is_known(self.marks[address]) else None
+
+    def told_length(self):
+        """How long the datagram at the place says it is; none if it tells no length, or
+        one that no datagram has or that passes the limit."""
+        first = self.byte(self.place)
+        if first is None or first >> 4 not in (4, 6):
+            return None
+        at, heads = (2, 0) if first >> 4 == 4 else (4, 40)
+        high, low = self.byte(self.place + at), self.byte(self.place + at + 1)
+        if high is None or low is None:
+            return None
+        length = heads + high * 256 + low
+        return length if 20 <= length <= 4080 and self.place + length <= self.limit else None
+
+    def next(self):
+        """(address, datagram), or none at the end."""
+        while self.place < self.limit:
+            address, length = self.place, self.told_length()
+            if length is None:
+                start = self.marks.find(START, address + 1, self.limit)
+                self.place = self.limit if start < 0 else start
+                continue
+            self.place = address + length
+            if all(map(is_known, self.marks[address:self.place])):
+                return address, bytes(self.cells[address:self.place])
+        return None
+
+
 class Receiver:
-    """The buffers that are lent now, and the burst that is open."""
+    """The buffers that are lent now, the burst that is open, and the one that was closed."""
 
     def __init__(self):
-        self.cells, self.marks, self.burst = bytearray(), bytearray(), None
+        self.cells, self.marks, self.burst, self.closed = bytearray(), bytearray(), None, None
 
     def start(self, code, size_code):
         if size_code not in ROWS:
@@ -180,7 +218,7 @@ class Receiver:
         if not burst.fits(self.cells, self.marks):
             return 2, 0
         self.marks[:] = bytes(len(self.marks))   # every mark is 0 now
-        self.burst = burst
+        self.burst, self.closed = burst, None
         return None
 
     def close(self, scratch, names):
@@ -188,8 +226,21 @@ class Receiver:
         lent = bytearray([SCRATCH] * scratch), bytearray([NAME] * names)
         no, wake = self.burst.close(self.cells, self.marks, *lent), self.burst.wake()
         if not no:
-            self.burst = None
+            self.burst, self.closed = None, self.burst
         return self.report("closed %d %d %d %s" % (*map(lent[1].count, (1, 2, 3)), wake), no, *lent)
+
+    def read_out(self):
+        """A read-out of the closed burst; none where that is refused."""
+        if not self.closed.fits(self.cells, self.marks):
+            return None
+        return ReadOut(self.closed.limit(), self.cells, self.marks)
+
+    def open(self, count):
+        """The lines to print for an open, and for so many calls of next."""
+        read_out = self.read_out()
+        if not read_out:
+            return [self.report("opened", (2, 0))]
+        return [self.report("opened", None), *(told(read_out.next()) for _ in range(count))]
 
     def report(self, done, no, *lent):
         if no:
@@ -199,37 +250,54 @@ class Receiver:
         return " ".join([done, *("%08X" % crc32_mirrored(buffer) for buffer in (self.cells, self.marks, *lent))])
 
     def answer(self, line):
-        """The line to print for a line that was read; none for one that makes no call."""
+        """The lines to print for a line that was read: one for each call."""
         if line == "" or line.startswith("#"):
-            return None
+            return []
         call, *words = line.split(" ")
         if call == "buffers":
             cells, marks = map(int, words)
             self.cells, self.marks = bytearray([CELL] * cells), bytearray([MARK] * marks)
-            return None
+            return []
         if call == "put":
             mark, first, count = map(int, words)
             assert first + count <= len(self.marks), line
             self.marks[first:first + count] = bytes([mark]) * count
-            return None
+            return []
         if call == "start":
             code, size_code = words
-            return self.report("started", self.start(code, int(size_code)))
+            return [self.report("started", self.start(code, int(size_code)))]
+        if call == "open":
+            assert self.closed, line
+            return self.open(*map(int, words))
         assert self.burst, line
         if call == "close":
-            return self.close(*map(int, words))
+            return [self.close(*map(int, words))]
         assert call == "take", line
         arrival, section = words
         assert int(arrival) < 1 << 32, line
         data = bytes.fromhex("" if section == "-" else section)
-        return self.report("taken", self.burst.take(data, int(arrival), self.cells, self.marks))
+        return [self.report("taken", self.burst.take(data, int(arrival), self.cells, self.marks))]
+
+
+def told(datagram):
+    """The line to print for what next answered."""
+    if datagram is None:
+        return "end"
+    address, data = datagram
+    return "datagram %d %d %08X" % (address, len(data), crc32_mirrored(data))
+
+
+def answered(lines):
+    """(number of the line, answer) for each call that the lines ask for."""
+    receiver = Receiver()
+    for number, line in enumerate(lines, 1):
+        for answer in receiver.answer(line):
+            yield number, answer
 
 
 def answers(text):
     """The whole output for a whole input."""
-    receiver = Receiver()
-    lines = map(receiver.answer, text.splitlines())
-    return "".join(line + "\n" for line in lines if line is not None)
+    return "".join(answer + "\n" for _, answer in answered(text.splitlines()))
 
 
 assert crc32_mirrored(b"123456789") == 0x0376E6E7

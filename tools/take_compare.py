@@ -1,10 +1,11 @@
 #!/usr/bin/python3
 """take_compare.py PROGRAM [SEED [BURSTS]]: make bursts at random, have PROGRAM
-(bursttake) take their sections and close them, and hold each answer, and the checksums
-of the buffers after it, against the second receiver. The seed is another one each time,
-and is printed: with it the same bursts come again. Without BURSTS there are 40, of 40
-lines each, and a third as many lawful ones that come with losses and are closed. Ends
-with status 1 on a difference.
+(bursttake) take their sections, close them and read them out, and hold each answer, and
+the checksums of the buffers after it, against the second receiver. The seed is another
+one each time, and is printed: with it the same bursts come again. Without BURSTS there
+are 40, of 40 lines each and those of close and read-outs, and a third as many lawful
+ones that come with losses. Then lines that cannot be obeyed must end PROGRAM. Ends with
+status 1 on a difference.
 
 The scripts that make the stored bursts have datagrams and frames from here too."""
 import collections
@@ -20,7 +21,13 @@ from reference_take import CHECK_COLUMNS, COLUMNS, ROWS
 from reference_write import fec, mpe, sealed
 
 MOST = 4080                                  # bytes of a datagram
-CALLS = ("start", "take", "close")           # the lines that are answered
+CALLS = ("start", "take", "close", "open")   # the lines that are answered
+ENDING = {                                   # lines that end the program at its start
+    "take 0 -": "no burst is open",
+    "close 255 256": "no burst is open",
+    "open 1": "no burst is closed",
+    "put 1 0 1": "there are not so many marks",
+}
 
 
 def datagram(rng, size, version=None):
@@ -149,10 +156,28 @@ def flip(rng, section):
     return sealed(section)
 
 
-def lossy_burst(rng):
+def read_lines(rng, frame, most=400):
+    """Read-outs of a closed burst: past its end, most often; of other buffers, too; and
+    where other marks were put, at the front of datagrams and elsewhere."""
+    enough = min(most, len(frame.datagrams) + 2)
+    lines = [f"open {enough}", f"open {rng.choice((0, 1, 3))}"]
+    if rng.randrange(4) == 0:
+        lines += [f"buffers {frame.size - rng.randrange(2)} {frame.size + 1}", "open 2"]
+        lines += [frame.buffers(), "open 1"] * rng.randrange(2)
+        return lines
+    for _ in range(rng.choice((0, 1, 1, 3))):
+        address, data = rng.choice(frame.datagrams)
+        for _ in range(rng.choice((1, 1, 10))):
+            place = address + rng.choice((0, 0, 2, 3, 4, 5, rng.randrange(len(data))))
+            lines.append(f"put {rng.choice((0, 1, 2, 2, 3, 4, rng.randrange(256)))} {place} 1")
+        lines.append(f"open {rng.choice((3, enough))}")
+    return lines
+
+
+def lossy_burst(rng, codes=("rs", "rs", "rs", "bare"), size_codes=(0, 0, 0, 0, 1)):
     """Lines of a lawful frame of which sections are lost, often about as many as check
-    columns come; of some that are forged; and of its close."""
-    code, size_code = rng.choice(("rs", "rs", "rs", "bare")), rng.choice((0, 0, 0, 0, 1))
+    columns come; of some that are forged; of its close, and of read-outs."""
+    code, size_code = rng.choice(codes), rng.choice(size_codes)
     end = rng.choice((rng.randint(20, 600), rng.randint(20, 8000), rng.randint(20, 70 * ROWS[size_code])))
     frame = Frame(rng, code, size_code, sizes_for(rng, end, rng.choice((100, 1500, MOST))), lawful=True)
     lost = rng.choice((0, 0.02, 0.1, 0.3))
@@ -166,13 +191,14 @@ def lossy_burst(rng):
     puts = [random_put(rng, frame, rng.randrange(frame.size), rng.choice((1, 60, 3 * frame.rows)))
             for _ in range(rng.choice((0, 0, 0, 1, 5)))]
     closes = [refused_close(rng, frame)] * rng.choice((0, 0, 1)) + [f"close 255 {frame.rows}"]
-    return [frame.buffers(), frame.start(), *(take_line(rng, section) for section in sections), *puts, *closes]
+    takes = (take_line(rng, section) for section in sections)
+    return [frame.buffers(), frame.start(), *takes, *puts, *closes, *read_lines(rng, frame)]
 
 
-def random_burst(rng, count, most=MOST):
-    """So many lines, nearly all of them sections that a burst is to take."""
-    code = rng.choice(("rs", "rs", "rs", "bare"))
-    size_code = rng.choice((0, 0, 0, 0, 1, 2, 3))
+def random_burst(rng, count, most=MOST, codes=("rs", "rs", "rs", "bare"), size_codes=(0, 0, 0, 0, 1, 2, 3)):
+    """So many lines, nearly all of them sections that a burst is to take, and those of its
+    close and of read-outs."""
+    code, size_code = rng.choice(codes), rng.choice(size_codes)
     frame = Frame(rng, code, size_code, sizes_for(rng, some_end(rng, ROWS[size_code]), most))
     lines = [frame.buffers(), frame.start()]
     while len(lines) < count:
@@ -187,20 +213,30 @@ def random_burst(rng, count, most=MOST):
         elif kind < 96:
             lines.append(random_put(rng, frame, rng.choice((frame.end, rng.randrange(frame.size))) % frame.size, 60))
         elif kind < 97:
-            lines += [refused_close(rng, frame), f"close 255 {frame.rows}", frame.start()]
+            lines += [refused_close(rng, frame), f"close 255 {frame.rows}", *read_lines(rng, frame, 30)]
+            lines += [frame.buffers(), frame.start()]
         elif kind < 98:
             lines.append(f"start {rng.choice(('rs', 'bare', code))} {rng.choice((0, 1, size_code, rng.randrange(256)))}")
         else:
             lines.append(f"buffers {frame.size - rng.randrange(2)} {frame.size - rng.randrange(2)}")
             lines.append(take_line(rng, lawful_section(rng, frame)))
             lines.append(frame.buffers())
-    return lines
+    return lines + [f"close 255 {frame.rows}", *read_lines(rng, frame, 30)]
 
 
 def outcome(answer):
     """An answer without its place and the checksums."""
     words = answer.split(" ")
     return " ".join(words[:2]) if words[0] == "refused" else words[0]
+
+
+def unended(program):
+    """Those of the lines that end the program at its start which do not end it as they should: with an error that names
+    the line, and nothing printed of it or of what follows."""
+    for line, why in ENDING.items():
+        ran = subprocess.run([program], input=f"buffers 0 0\n{line}\nstart rs 0\n", capture_output=True, text=True)
+        if (ran.returncode, ran.stdout) != (1, "") or f"line 2: {why}" not in ran.stderr:
+            yield f"{line}: status {ran.returncode}, printed {ran.stdout!r}, {ran.stderr!r}"
 
 
 def main(program, seed=None, bursts=40):
@@ -210,20 +246,22 @@ def main(program, seed=None, bursts=40):
     lines = [line for _ in range(int(bursts)) for line in random_burst(rng, 40)]
     lines += [line for _ in range(int(bursts) // 3) for line in lossy_burst(rng)]
     ran = subprocess.run([program], input="".join(line + "\n" for line in lines), stdout=subprocess.PIPE, text=True)
-    got, want = ran.stdout.splitlines(), reference.answers("\n".join(lines)).splitlines()
-    different, counts = int(ran.returncode != 0), collections.Counter(map(outcome, want))
+    got, want = ran.stdout.splitlines(), list(reference.answered(lines))
+    different, counts = int(ran.returncode != 0), collections.Counter(outcome(answer) for _, answer in want)
     if ran.returncode:
         print(f"DIFFERENT: {program} ended with status {ran.returncode}")
     if len(got) != len(want):
         print(f"DIFFERENT: {len(want)} calls, {len(got)} answers")
         different += 1
-    calls = (number for number, line in enumerate(lines, 1) if line.split(" ")[0] in CALLS)
-    for number, printed, due in zip(calls, got, want):
+    for printed, (number, due) in zip(got, want):
         if printed != due:
             different += 1
             if different < 10:
                 print(f"DIFFERENT: line {number}\n  {lines[number - 1][:200]}\n  printed {printed}\n  due     {due}")
-    print(f"{len(want)} calls compared, {different} differences")
+    for wrong in unended(program):
+        different += 1
+        print(f"DIFFERENT: {wrong}")
+    print(f"{len(want)} calls and {len(ENDING)} ends compared, {different} differences")
     print("  " + ", ".join(f"{name}: {counts[name]}" for name in sorted(counts, key=lambda name: (len(name), name))))
     return 1 if different else 0
 

@@ -145,8 +145,8 @@ pub(crate) fn start(alloc: Global, size: usize, arrival: u32) -> anyhow::Result<
     })
 }
 
-// The bytes of a part of the cells.
-fn part(cells: &[u8], first: usize, count: u16) -> anyhow::Result<&[u8]>
+/// The bytes of a part of the cells.
+pub(crate) fn part(cells: &[u8], first: usize, count: u16) -> anyhow::Result<&[u8]>
     requires { first < 2 ^ 32 }
     ensures { IfOk result (λ part. part.now ≡ take count (drop first cells.now)) }
 {

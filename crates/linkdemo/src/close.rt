@@ -7,14 +7,14 @@ use crate::sent::{DATAGRAMS, fill_datagram};
 use anyhow::ensure;
 use frame_row::SCRATCH_ROW;
 use geometry::Rows;
-use receiver::{Alarm, Tallies, Wake};
+use receiver::{Alarm, ClosedBurst, Tallies, Wake};
 use reed_solomon::ReedSolomon;
 use rowcode::Mended;
 use std::alloc::Global;
 use std::io::Write;
 
-// When the sections come in, in ms.
-const ARRIVAL: u32 = 10_000;
+/// When the sections come in, in ms.
+pub(crate) const ARRIVAL: u32 = 10_000;
 
 impl Reception {
     // Takes the sections that come in. One datagram of the frame is not among them, and one that nobody sent is.
@@ -29,8 +29,8 @@ impl Reception {
         self.send(out, "datagram at 0", first, Ok(()))?;
         let mut forged = [0; 20];
         fill_datagram(&mut forged, 20, b'X');
-        let forged = datagram(266, false, &forged);
-        self.send(out, "datagram at 266, which nobody sent", forged, Ok(()))?;
+        let forged = datagram(356, false, &forged);
+        self.send(out, "datagram at 356, which nobody sent", forged, Ok(()))?;
         let last = of_frame(sent, last, true)?;
         self.send(out, "datagram at 512, the last one", last, Ok(()))?;
         let check = column(rows, sent, 0, PADDING_COLUMNS)?;
@@ -46,23 +46,20 @@ fn all_named(names: &[u8], answer: Mended) -> bool
     names.iter().all(|name| *name == answer.number())
 }
 
-// Tells which rows are torn and which are open, and how many there are of each kind. So it must be.
-fn tell_rows(out: &mut impl Write, names: &[u8], tallies: Tallies) -> anyhow::Result<()> {
-    let (torn, open) = (names.get(10..30), names.get(200..256));
+// Tells which rows are torn and which are open. So it must be.
+fn tell_rows(out: &mut impl Write, names: &[u8]) -> anyhow::Result<()> {
+    let (torn, open) = (names.get(100..120), names.get(200..256));
     ensure!(
         torn.is_some_and(|names| all_named(names, Mended::Torn)),
-        "rows 10 to 29 are not all torn"
+        "rows 100 to 119 are not all torn"
     );
     ensure!(
         open.is_some_and(|names| all_named(names, Mended::Open)),
         "rows 200 to 255 are not all open"
     );
-    ensure!(tallies == (180, 20, 56), "other tallies of rows");
-    let (filled, torn, open) = tallies;
-    writeln!(out, "   rows filled {filled}, torn {torn}, open {open}")?;
     writeln!(
         out,
-        "   Rows 10 to 29 are torn: they fit no codeword. Rows 200 to 255 are open: they fit many."
+        "   Rows 100 to 119 are torn: they fit no codeword. Rows 200 to 255 are open: they fit many."
     )?;
     Ok(())
 }
@@ -81,13 +78,23 @@ fn tell_alarm(out: &mut impl Write, alarm: Alarm, later: u32) -> anyhow::Result<
     Ok(())
 }
 
-// Closes a burst, and tells what becomes of its rows, and when the radio is needed again. Its buffers are left.
-fn close(
+/// A burst that is closed: what it was closed to, its buffers, the names of its rows, and what is set on the alarm.
+#[derive(Drop)]
+pub(crate) struct Done {
+    pub(crate) closed: ClosedBurst<ReedSolomon>,
+    pub(crate) buffers: Buffers,
+    names: Vec<u8>,
+    alarm: Alarm,
+}
+
+/// Closes a burst, and tells how many of its rows are filled, torn and open. So many it must be.
+pub(crate) fn close(
     out: &mut impl Write,
     alloc: Global,
     rows: Rows,
     reception: Reception,
-) -> anyhow::Result<Buffers> {
+    due: Tallies,
+) -> anyhow::Result<Done> {
     let Reception {
         burst,
         mut buffers,
@@ -96,23 +103,29 @@ fn close(
     let mut scratch = [0xFF; SCRATCH_ROW];
     let mut names = vec![in alloc; 0u8; rows.count()]?;
     let mut alarm = Alarm { wake: None };
-    let tallies = match burst.close(
+    let (closed, tallies) = match burst.close(
         &mut ReedSolomon,
         &mut buffers.cells,
         &mut buffers.marks,
         &mut scratch,
         &mut names,
     ) {
-        Ok((_closed, wake_order, tallies)) => {
+        Ok((closed, wake_order, tallies)) => {
             wake_order.set_on(&mut alarm);
-            tallies
+            (closed, tallies)
         }
         Err((refusal, _burst)) => return Err(refusal.into()),
     };
-    tell_rows(out, &names, tallies)?;
+    ensure!(tallies == due, "other tallies of rows");
+    let (filled, torn, open) = tallies;
+    writeln!(out, "   rows filled {filled}, torn {torn}, open {open}")?;
     ensure!(scratch == [0; SCRATCH_ROW], "the scratch row is not zero");
-    tell_alarm(out, alarm, 5_000)?;
-    Ok(buffers)
+    Ok(Done {
+        closed,
+        buffers,
+        names,
+        alarm,
+    })
 }
 
 /// Shows what close does, step by step. It is an error if a step does not come out as it is told.
@@ -121,7 +134,7 @@ pub(crate) fn show(
     alloc: Global,
     rows: Rows,
     sent: &[u8],
-) -> anyhow::Result<()> {
+) -> anyhow::Result<Done> {
     writeln!(
         out,
         "10. Another burst of the frame starts. The datagram at 200 is lost, and a forged one comes in:"
@@ -130,7 +143,10 @@ pub(crate) fn show(
     reception.receive_damaged(out, rows, sent)?;
     writeln!(out)?;
     writeln!(out, "11. The burst is closed:")?;
-    let buffers = close(out, alloc, rows, reception)?;
-    buffers.tell(out, (56_540, 484, 2))?;
-    buffers.tell_right(out, sent)
+    let done = close(out, alloc, rows, reception, (180, 20, 56))?;
+    tell_rows(out, &done.names)?;
+    tell_alarm(out, done.alarm, 5_000)?;
+    done.buffers.tell(out, (56_540, 504, 2))?;
+    done.buffers.tell_right(out, sent)?;
+    Ok(done)
 }

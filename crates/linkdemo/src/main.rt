@@ -1,9 +1,10 @@
 //! The layers at work, step by step, with no input. What a step tells has come out in this very run; else the program ends
-//! with an error. So far: a row of a frame, a burst that takes sections, and one that is closed.
+//! with an error: a row of a frame, a burst that takes sections, and bursts that are closed and read out.
 #![tactic(auto)]
 
 mod burst;
 mod close;
+mod readouts;
 mod sent;
 
 use burst::{SIZE_CODE, make_frame};
@@ -15,7 +16,8 @@ use std::io::{BufWriter, Write};
 
 const USAGE: &str = "usage: linkdemo
 Shows the layers at work, step by step, with no input: a row of a frame is spread, loses bytes and is mended; a burst takes
-the sections of a frame, and turns others away; a burst with a loss and a forgery is closed.
+the sections of a frame, and turns others away; a burst with a loss and a forgery is closed and read out, and one
+whose loss is made good.
 A step that does not come out as it is told ends the program with an error.";
 
 // A row, and then the bursts of a frame.
@@ -27,7 +29,9 @@ fn show(out: &mut impl Write, alloc: Global) -> anyhow::Result<()> {
     writeln!(out)?;
     burst::show(out, alloc, rows, &sent)?;
     writeln!(out)?;
-    close::show(out, alloc, rows, &sent)
+    let done = close::show(out, alloc, rows, &sent)?;
+    writeln!(out)?;
+    readouts::show(out, alloc, rows, &sent, &done)
 }
 
 fn main(rt: HostRuntime) -> anyhow::Result<()> {

@@ -1,3 +1,4 @@
+pub mod Bursts
 pub mod Lines
 pub mod Parts
 pub mod Tallies

@@ -1,10 +1,12 @@
-//! The lines of a listing of sections, and their tally.
+//! The lines of a listing of sections, and their tally; and those of a listing of a burst's datagrams.
 #![tactic(auto)]
 
+mod bursts;
 mod lines;
 mod parts;
 mod tallies;
 
+pub use bursts::{Totals, datagram_line, totals_line};
 pub use lines::{Position, section_line};
 pub use tallies::Tally;
 

@@ -5,6 +5,8 @@ ghost use Rattle.stream.specs.Columns.{right_aligned, left_aligned};
 
 use arrayvec::{ArrayVec, CapacityError};
 use itoa::Buffer;
+use std::io;
+use std::io::Write;
 use std::marker::Model;
 
 /// How many bytes a line has room for.
@@ -89,6 +91,12 @@ impl Line {
         ensures kept { OnErr result (self.new ≡ self.old) }
     {
         self.append(0, word.as_bytes(), columns.saturating_sub(word.len()))
+    }
+
+    /// Writes the text and an end of line.
+    pub fn print(&self, out: &mut impl Write) -> io::Result<()> {
+        out.write_all(self.as_bytes())?;
+        out.write_all(b"\n")
     }
 
     // Appends the text with so many blanks before and behind it, or nothing where that does not fit the line.

@@ -1,8 +1,9 @@
-//! A stream of bytes is held in a window and cut into sections, and a line of text is set in columns.
+//! A stream of bytes is read, held in a window and cut into sections, and a line of text is set in columns.
 #![tactic(auto)]
 
 pub mod columns;
 pub mod cutting;
+pub mod sources;
 pub mod windows;
 
 #[cfg(test)]

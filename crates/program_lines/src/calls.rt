@@ -1,12 +1,11 @@
-//! The lines that the program reads.
+//! The lines of `bursttake`: calls of a receiver.
 ghost use Rattle.std.specs.Prelude.{◌≡◌};
-ghost use Rattle.bursttake.specs.Lines.{passed_over};
+ghost use Rattle.program_lines.specs.Lines.{passed_over};
 
-use crate::bursts::Code;
-use anyhow::{Error, anyhow};
+use crate::codes::Code;
+use anyhow::anyhow;
 use program::bytes_of;
 use std::alloc::Global;
-use std::str::FromStr;
 
 /// What a line asks for.
 #[derive(Drop)]
@@ -21,18 +20,8 @@ pub enum Request {
     Take { arrival: u32, section: Vec<u8> },
     /// Close it, with a scratch row and names of these lengths.
     Close { scratch: u32, names: u32 },
-}
-
-impl FromStr for Code {
-    type Err = Error;
-
-    fn from_str(word: &str) -> anyhow::Result<Code> {
-        match word {
-            "rs" => Ok(Code::ReedSolomon),
-            "bare" => Ok(Code::Bare),
-            _ => Err(anyhow!("the code is rs or bare")),
-        }
-    }
+    /// Open a read-out of the closed one, and call next so many times.
+    Open { count: u32 },
 }
 
 /// Whether a line is there for people alone: it is empty, or begins with a number sign.
@@ -43,7 +32,7 @@ pub fn is_passed_over(line: &str) -> bool
 }
 
 /// What a line asks for.
-pub(crate) fn requested(heap: Global, line: &str) -> anyhow::Result<Request> {
+pub fn requested(heap: Global, line: &str) -> anyhow::Result<Request> {
     let words: Vec<&str> = line.split(' ').collect(heap)?;
     match words.as_slice() {
         ["buffers", cells, marks] => Ok(Request::Buffers {
@@ -67,6 +56,9 @@ pub(crate) fn requested(heap: Global, line: &str) -> anyhow::Result<Request> {
             scratch: scratch.parse()?,
             names: names.parse()?,
         }),
+        ["open", count] => Ok(Request::Open {
+            count: count.parse()?,
+        }),
         _ => Err(anyhow!("this asks for nothing")),
     }
 }
@@ -85,6 +77,7 @@ mod tests {
             "take 4294967295 0AF9",
             "take 0 -",
             "close 255 1024",
+            "open 0",
         ];
         for line in lines {
             assert!(rt; requested(rt.alloc(), line).is_ok(), "{}", line);
@@ -123,6 +116,9 @@ mod tests {
             "close 255 256 0",
             "close rs 256",
             "close 255 4294967296",
+            "open",
+            "open 1 2",
+            "open 4294967296",
         ];
         for line in lines {
             assert!(rt; requested(rt.alloc(), line).is_err(), "{}", line);

@@ -1,6 +1,6 @@
 use Rattle.std.proofs.Common.{◌≡◌, ◌++◌, length, vec_items, All}
-use Rattle.rowmend.specs.Cells.{HasFiller, in_signs}
-use Rattle.rowmend.proofs.rows.read_cells.Given as goal
+use Rattle.program_lines.specs.Cells.{HasFiller, in_signs}
+use Rattle.program_lines.proofs.rows.read_cells.Given as goal
 
 -- what was read, written again, and what is left are the text
 abbrev pub invariant-loop-left : goal.invariant-loop-left

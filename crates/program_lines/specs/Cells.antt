@@ -1,7 +1,7 @@
 -- Rows as a line has them: two signs for each cell.
 use Rattle.std.specs.Prelude.{◌≡◌, ◌≢◌, ℕ, ◌<◌, ◌/◌, ◌%◌, Bool, true, false, ◌⊎◌, List, [], ◌∷◌, ◌++◌, All, codes}
 use Rattle.program.specs.Hex.{hex_digit}
-use Rattle.rowmend.specs.declared.rows.Cell.{Cell}
+use Rattle.program_lines.specs.declared.rows.Cell.{Cell}
 
 -- where the byte is not known, the row has 0xAA
 abbrev pub HasFiller : Cell → Type 0

@@ -2,9 +2,9 @@
 use Rattle.std.proofs.Common.{◌≡◌, ℕ, ◌+◌, ◌-◌, ◌≤◌, ◌<◌, Bool, true, false, List, [], ◌∷◌, ◌++◌, length, get_or, take, drop, vec_items, All, refl, sym, ap, ◌∙◌, append_assoc, arith, take_all, rules}
 use Rattle.std.proofs.lemmas.List.Elements.{All-nil, All-push, All-same, All-head, All-tail}
 use Rattle.std.proofs.lemmas.List.{append-nil}
-use Rattle.rowmend.specs.declared.rows.Cell.{Cell}
-use Rattle.rowmend.specs.Cells.{HasFiller, signs, Signs, in_signs, Spells, NoCell, NoCells}
-use Rattle.rowmend.proofs.rows.read_cells.Goals as goal
+use Rattle.program_lines.specs.declared.rows.Cell.{Cell}
+use Rattle.program_lines.specs.Cells.{HasFiller, signs, Signs, in_signs, Spells, NoCell, NoCells}
+use Rattle.program_lines.proofs.rows.read_cells.Goals as goal
 
 -- one cell more has its two signs more
 in_signs_more : (cells : List Cell) (cell : Cell) → in_signs (cells ++ cell ∷ []) ≡ in_signs cells ++ signs cell.known cell.byte
