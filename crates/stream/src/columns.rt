@@ -1,6 +1,7 @@
 //! Numbers and words are set in columns.
 
-ghost use Rattle.std.specs.Prelude.{◌≡◌, ◌+◌, ◌≤◌, ◌↔◌, [], ◌++◌, length, replicate, decimal, IsOk, OnOk, OnErr};
+ghost use Rattle.std.specs.Prelude.{◌≡◌, ◌+◌, ◌≤◌, ◌↔◌, [], ◌∷◌, ◌++◌, length, replicate, decimal, IsOk, OnOk, OnErr};
+ghost use Rattle.std.specs.Io.KnownBytes.{Appends};
 ghost use Rattle.stream.specs.Columns.{right_aligned, left_aligned};
 
 use arrayvec::{ArrayVec, CapacityError};
@@ -94,9 +95,12 @@ impl Line {
     }
 
     /// Writes the text and an end of line.
-    pub fn print(&self, out: &mut impl Write) -> io::Result<()> {
+    pub fn print<W: Write>(&self, out: &mut W) -> io::Result<()>
+        ensures { OnOk result (Appends (W.contents out.old) (W.contents out.new) (self.now ++ 10 ∷ [])) }
+    {
         out.write_all(self.as_bytes())?;
-        out.write_all(b"\n")
+        out.write_all(b"\n")?;
+        Ok(())
     }
 
     // Appends the text with so many blanks before and behind it, or nothing where that does not fit the line.
