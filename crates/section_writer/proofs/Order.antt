@@ -1,9 +1,9 @@
 -- The rules of writing in their order, as the code comes to them.
-use Rattle.std.proofs.Common.{◌≡◌, ℕ, ◌^◌, not, eqb, List, [], ◌∷◌, length, Some, None, ◌∙◌}
+use Rattle.std.proofs.Common.{◌≡◌, ℕ, ◌^◌, not, eqb, List, [], ◌∷◌, length, Some, None, Ok, Err, Result, ◌∙◌}
 use Rattle.std.proofs.lemmas.Bool.{lt-leb}
 use Rattle.refusal.specs.declared.Refusal.{Refusal}
 use Rattle.refusal.specs.declared.Refusal.TheVariants.{Unwritable}
-use Rattle.refusal.specs.Rules.{Verdict, when, first, Refused, Passes}
+use Rattle.refusal.specs.Rules.{Verdict, when, first, Refused, Passes, Answers}
 use Rattle.refusal.proofs.Order.{or_else_none, first_append, first_passes, first_refuses, refused_front, refused_first}
 use Rattle.section.specs.declared.frame_size.FrameSize.{FrameSize}
 use Rattle.section.specs.declared.reading.Section.{Section}
@@ -38,3 +38,9 @@ module _ (frame : FrameSize) (x : Section) (room : ℕ) where
 
   pub all_pass : first content ≡ None → when (not (eqb room 4096)) Unwritable ≡ None → Passes (timing_rules x.timing) → Passes in_order
   all_pass none fits timing = first_passes in_order (late none ∙ rw (fits, timing.none 1))
+
+  -- what the parameters' own rules answer is then the answer of all
+  pub timing_answers : (Done : List ℕ → Type 0) → first content ≡ None → when (not (eqb room 4096)) Unwritable ≡ None
+      → (r : Result (List ℕ) Refusal) → Answers (timing_rules x.timing) Done r → Answers in_order Done r
+  timing_answers Done none fits (Ok bytes) (passes, done) = (all_pass none fits passes, done)
+  timing_answers Done none fits (Err e) refused = timing_refused none fits refused

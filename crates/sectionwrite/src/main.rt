@@ -49,7 +49,7 @@ fn print_answer(out: &mut impl Write, description: &Description) -> io::Result<(
 fn print_answers(rt: &HostRuntime, out: &mut impl Write) -> anyhow::Result<()> {
     let heap = rt.alloc();
     let lines = BufReader::new(heap, rt.stdin())?.lines(heap);
-    for (number, line) in (1u64..).zip(lines) {
+    for (number, line) in (1..=u64::MAX).zip(lines) {
         let description = line
             .map_err(Error::from)
             .and_then(|line| described(heap, &line))

@@ -5,7 +5,7 @@ ghost use Rattle.std.specs.Io.KnownBytes.{Appends};
 ghost use Rattle.stream.specs.Columns.{right_aligned, left_aligned};
 
 use arrayvec::{ArrayVec, CapacityError};
-use itoa::Buffer;
+use itoa::{Buffer, write_digits};
 use std::io;
 use std::io::Write;
 use std::marker::Model;
@@ -21,6 +21,14 @@ fn blank(count: usize) -> &'static [u8]
     ensures { result.now ≡ replicate count 32 }
 {
     &BLANKS[..count]
+}
+
+// How many digits the number has.
+fn digits(number: u64) -> usize
+    ensures { result ≡ length (decimal number) }
+{
+    let mut buffer = Buffer::new();
+    buffer.format(number).len()
 }
 
 /// Writes the number in decimal over the whole field, right-justified with blanks before it.
@@ -78,10 +86,13 @@ impl Line {
         ensures fits { IsOk result ↔ (length self.old + length (right_aligned columns number) ≤ 256) }
         ensures written { OnOk result (self.new ≡ self.old ++ right_aligned columns number) }
         ensures kept { OnErr result (self.new ≡ self.old) }
+        ensures within { length self.new ≤ 256 }
     {
-        let mut buffer = Buffer::new();
-        let digits = buffer.format(number).as_bytes();
-        self.append(columns.saturating_sub(digits.len()), digits, 0)
+        let width = columns.max(digits(number));
+        self.append(b"", width)?;
+        let end = self.text.len();
+        write_digits(number, self.text.as_mut_slice(), end);
+        Ok(())
     }
 
     /// Appends the word, with blanks after it up to so many columns where it has fewer bytes.
@@ -90,8 +101,9 @@ impl Line {
         ensures fits { IsOk result ↔ (length self.old + length (left_aligned columns word.now) ≤ 256) }
         ensures written { OnOk result (self.new ≡ self.old ++ left_aligned columns word.now) }
         ensures kept { OnErr result (self.new ≡ self.old) }
+        ensures within { length self.new ≤ 256 }
     {
-        self.append(0, word.as_bytes(), columns.saturating_sub(word.len()))
+        self.append(word.as_bytes(), columns)
     }
 
     /// Writes the text and an end of line.
@@ -103,18 +115,19 @@ impl Line {
         Ok(())
     }
 
-    // Appends the text with so many blanks before and behind it, or nothing where that does not fit the line.
-    fn append(&mut self, before: usize, text: &[u8], behind: usize) -> Result<(), CapacityError>
-        ensures fits { IsOk result ↔ (length self.old + before + length text.now + behind ≤ 256) }
-        ensures written { OnOk result (self.new ≡ self.old ++ replicate before 32 ++ text.now ++ replicate behind 32) }
+    // Appends the text, with blanks behind it up to so many columns, or nothing where that does not fit the line.
+    fn append(&mut self, text: &[u8], columns: usize) -> Result<(), CapacityError>
+        ensures fits { IsOk result ↔ (length self.old + length (left_aligned columns text.now) ≤ 256) }
+        ensures written { OnOk result (self.new ≡ self.old ++ left_aligned columns text.now) }
         ensures kept { OnErr result (self.new ≡ self.old) }
+        ensures within { length self.new ≤ 256 }
     {
-        let width = before.saturating_add(text.len()).saturating_add(behind);
+        let blanks = columns.saturating_sub(text.len());
+        let width = text.len().saturating_add(blanks);
         if width > self.text.remaining_capacity() {
             return Err(CapacityError::new(()));
         }
-        self.text.try_extend_from_slice(blank(before))?;
         self.text.try_extend_from_slice(text)?;
-        self.text.try_extend_from_slice(blank(behind))
+        self.text.try_extend_from_slice(blank(blanks))
     }
 }

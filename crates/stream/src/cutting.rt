@@ -29,11 +29,13 @@ pub struct Cutter {
 
 // Clauses see how many pieces may still be cut.
 impl Model for Cutter {
-    ghost use Rattle.std.specs.Prelude.{ℕ};
+    ghost use Rattle.std.specs.Prelude.{ℕ, ◌≤◌};
 
     ghost Value = { ℕ };
 
     ghost view = { λ cutter. cutter.left };
+
+    ghost invariant = { λ cutter. cutter.left ≤ 20000 };
 }
 
 impl Cutter {
@@ -53,6 +55,7 @@ impl Cutter {
     pub fn next(&mut self, held: &[u8], ended: bool) -> Cut
         ensures cuts { Cuts held.now ended self.old self.new result }
         ensures window { result ≡ Cut.More → length held.now < 4098 }
+        ensures within { self.new ≤ 20000 }
     {
         if self.left == 0 {
             return Cut::End;

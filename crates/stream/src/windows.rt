@@ -41,7 +41,8 @@ impl Window {
 
     /// How many bytes more there is room for: 4,098 less those held.
     pub fn room(&self) -> usize
-        ensures { result ≡ 4098 - length self.now }
+        ensures room { result ≡ 4098 - length self.now }
+        ensures within { length self.now ≤ 4098 }
     {
         self.bytes.remaining_capacity()
     }
@@ -50,6 +51,7 @@ impl Window {
     pub fn append(&mut self, more: &[u8]) -> usize
         ensures count { result ≡ min (length more.now) (4098 - length self.old) }
         ensures after { self.new ≡ self.old ++ take result more.now }
+        ensures within { length self.new ≤ 4098 }
     {
         let count = more.len().min(self.bytes.remaining_capacity());
         self.bytes.try_extend_from_slice(&more[..count]).unwrap();
@@ -58,7 +60,8 @@ impl Window {
 
     /// Lets go of so many bytes at the front, of all where fewer are held.
     pub fn release(&mut self, count: usize)
-        ensures { self.new ≡ drop count self.old }
+        ensures after { self.new ≡ drop count self.old }
+        ensures within { length self.new ≤ 4098 }
     {
         let count = count.min(self.bytes.len());
         self.bytes.drain(..count);

@@ -14,6 +14,5 @@ wrote_first bytes before after n wrote = rw (wrote.buffer, wrote.len) (take_at b
 pub returns-clause-back : goal.returns-clause-back
 returns-clause-back c =
     let x = c.args.section in
-    let written = rw c.in_ok-writable.ensures.answer.1 at c.lay.ensures in
-    subst (λ s. ReadsAs c.args.frame.rows c.args.frame.check_columns s x) (sym (wrote_first (written_of x) _ _ _ written))
-    (reads_back c.args.frame.rows c.args.frame.check_columns x _ c.in_ok-writable.ensures.answer.0)
+    subst (λ s. ReadsAs c.args.frame.rows c.args.frame.check_columns s x) (sym (wrote_first (written_of x) _ _ _ c.lay.ensures))
+    (reads_back c.args.frame.rows c.args.frame.check_columns x _ c.in_ok-timing_bytes.ensures.answer.0)
