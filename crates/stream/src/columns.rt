@@ -23,7 +23,8 @@ fn blank(count: usize) -> &'static [u8]
     &BLANKS[..count]
 }
 
-// How many digits the number has.
+// How many digits the number has. They are written to be counted, since a copy of them would cost more than to write them
+// again.
 fn digits(number: u64) -> usize
     ensures { result ≡ length (decimal number) }
 {

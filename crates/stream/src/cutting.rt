@@ -55,7 +55,7 @@ impl Cutter {
     pub fn next(&mut self, held: &[u8], ended: bool) -> Cut
         ensures cuts { Cuts held.now ended self.old self.new result }
         ensures window { result ≡ Cut.More → length held.now < 4098 }
-        ensures within { self.new ≤ 20000 }
+        ensures within { (self.old ≤ 20000) × (self.new ≤ 20000) }
     {
         if self.left == 0 {
             return Cut::End;

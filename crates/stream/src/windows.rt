@@ -61,7 +61,7 @@ impl Window {
     /// Lets go of so many bytes at the front, of all where fewer are held.
     pub fn release(&mut self, count: usize)
         ensures after { self.new ≡ drop count self.old }
-        ensures within { length self.new ≤ 4098 }
+        ensures within { (length self.old ≤ 4098) × (length self.new ≤ 4098) }
     {
         let count = count.min(self.bytes.len());
         self.bytes.drain(..count);

@@ -1,4 +1,4 @@
--- Two signs and what is behind them decide; of fewer signs there is nothing to ask.
+-- Each two signs and what is behind them decide.
 use Rattle.std.proofs.Common.{rules, ◌≡◌, ◌↔◌, ℕ, ◌-◌, ◌<◌, ◌≤◌, List, [], ◌∷◌, length, get_or, take, drop, take_all, arith}
 use Rattle.program.specs.Hex.{Digits}
 use Rattle.section_vectors.specs.Reasons.{PairsAreDigits}
@@ -8,6 +8,7 @@ use Rattle.section_vectors.proofs.pairs_are_digits.Goals as goal
 abbrev FirstPair : List ℕ → Type 0
 FirstPair left = (b : ℕ) × (b < 256) × Digits b (get_or left 0 0) (get_or left 1 0)
 
+-- what is left, taken apart into its first two signs and the rest
 apart : (left : List ℕ) → 2 ≤ length left → PairsAreDigits left ↔ (FirstPair left × PairsAreDigits (take (length left - 2) (drop 2 left)))
 unfolding PairsAreDigits
 apart [] h = absurd (omega arith)
@@ -16,6 +17,7 @@ apart (x ∷ y ∷ rest) h =
     let same : take (length (x ∷ y ∷ rest) - 2) rest ≡ rest = take_all _ rest (omega arith) in
     rw same (λ p. p, λ p. p)
 
+-- of fewer than two signs nothing is asked
 short : (left : List ℕ) → length left < 2 → PairsAreDigits left
 unfolding PairsAreDigits
 short [] h = tt

@@ -7,6 +7,7 @@ use Rattle.std.proofs.lemmas.List.{take-append-drop, take-replicate, length-repl
 use Rattle.stream.specs.Columns.{right_aligned}
 use Rattle.stream.proofs.columns.Line.decimal.Goals as goal
 
+-- digits over the last of so many blanks: what stands there is the number with the blanks in front of it
 over_blanks : (before : List ℕ) (columns width n start : ℕ) (blank written : List ℕ) → width ≡ max columns (length (decimal n))
     → blank ≡ before ++ replicate width 32 → start + length (decimal n) ≡ length blank → take start written ≡ take start blank → drop start written ≡ decimal n
     → written ≡ before ++ right_aligned columns n
@@ -19,6 +20,7 @@ over_blanks before columns width n start blank written is_width is_blank sum fro
     = rw (is_blank, at) (take-append-add before (replicate width 32) (columns - length (decimal n)) ∙ ap (λ (xs : List ℕ). before ++ xs) (take-replicate (columns - length (decimal n)) width _ less)) in
     sym (take-append-drop start written) ∙ rw (front, digits, blanks) (append_assoc before (replicate (columns - length (decimal n)) 32) (decimal n))
 
+-- what is written back in full is all that is there
 refilled : (items buffer : List ℕ) → length buffer ≡ length items → refill (length items) items buffer ≡ buffer
 refilled items buffer same =
     let none : drop (length buffer) items ≡ [] = drop_of_length-le items (omega arith) in
